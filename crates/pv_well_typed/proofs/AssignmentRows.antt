@@ -16,7 +16,7 @@ use Rattle.pv_typed.specs.TypedUnits.{WholeUnit}
 use Rattle.pv_check.specs.Kinds.{common}
 use Rattle.pv_num.specs.Kinds.{promoted}
 use Rattle.pv_check.specs.Sorts.{complete_pointed_by}
-use Rattle.pv_types.specs.Sorts.{kind_in, kind_of, pointed_in, pointed_by, bare as unqualified}
+use Rattle.pv_types.specs.Sorts.{kind_in, kind_of, pointed_in, pointed_by, bare}
 use Rattle.pv_check.specs.Values.{written, converted, assigned, is_modifiable}
 use Rattle.pv_check.specs.Assignment.{compound_at, arithmetic_assign, shift_assign, sum_assign, assign_by, assign_of, comma_of}
 use Rattle.pv_check.specs.AssignmentParts.{assigned_to, simple_of, arithmetic_kinds, shift_kinds, step_to, pointer_assign}
@@ -63,10 +63,10 @@ module _ (E : Type 0) (v : WholeUnit) (os : List ℕ) (done : IsFinished v) (es 
       by None p e = absurd cc
       by (Some c) p e =
           let q = assigned-row E v os (type_of a) b g c p in
-          as-made (IsExpression E v os) (written line (unqualified (type_of a)) (Assign a c)) x (record {
-            typed = λ i. (h.typed i, m.place, q.converted.typed i, has-type E v os (unqualified (type_of a)) c q.converted, refl, sized-later v done es more (type_of a) h.proper m.complete, q.value);
+          as-made (IsExpression E v os) (written line (bare (type_of a)) (Assign a c)) x (record {
+            typed = λ i. (h.typed i, m.place, q.converted.typed i, has-type E v os (bare (type_of a)) c q.converted, refl, sized-later v done es more (type_of a) h.proper m.complete, q.value);
             proper = proper-unqualified v (type_of a) h.proper;
-            valued = λ n. (refl, value-or-void (unqualified (type_of a)) q.value);
+            valued = λ n. (refl, value-or-void (bare (type_of a)) q.value);
           }) e
 
   -- 6.5.16.2p3: of integers
@@ -74,8 +74,8 @@ module _ (E : Type 0) (v : WholeUnit) (os : List ℕ) (done : IsFinished v) (es 
       → IsPromoted k → MayBeRight op k r → (x : TypedTree) → compound_at line op a b k r ≡ Some x → IsExpression E v os x
   compound-row line op a b h m g j l k r p q w z x e =
       let c = integer-converted E v os l r b g (kind-type (type_of b) l g.plain q) in
-      let is : unqualified (type_of a) ≡ IntTy j = kind-inside (unqualified (type_of a)) j p in
-      as-made (IsExpression E v os) (written line (unqualified (type_of a)) (CompoundAssign op k a (converted (IntTy r) b))) x (record {
+      let is : bare (type_of a) ≡ IntTy j = kind-inside (bare (type_of a)) j p in
+      as-made (IsExpression E v os) (written line (bare (type_of a)) (CompoundAssign op k a (converted (IntTy r) b))) x (record {
         typed = λ i. (j, r, h.typed i, m.place, c.typed i, has-type E v os (IntTy r) (converted (IntTy r) b) c, is, refl, w, z, sized-later v done es more (type_of a) h.proper m.complete);
         proper = proper-unqualified v (type_of a) h.proper;
         valued = λ n. (refl, subst IsValueOrVoid (sym is) tt);
@@ -108,10 +108,10 @@ module _ (E : Type 0) (v : WholeUnit) (os : List ℕ) (done : IsFinished v) (es 
   step-row line sign a b h m g (Some t) None q r x e = absurd cc
   step-row line sign a b h m g (Some t) (Some k) q r x e =
       let found = some-complete es (pointed_by (type_of a)) t q in
-      let is : unqualified (type_of a) ≡ PointerTo t = pointed-inside (unqualified (type_of a)) t found.0 in
+      let is : bare (type_of a) ≡ PointerTo t = pointed-inside (bare (type_of a)) t found.0 in
       let plain = proper-unqualified v (type_of a) h.proper in
       let proper : IsProper v t = subst (IsProper v) is plain in
-      as-made (IsExpression E v os) (written line (unqualified (type_of a)) (PointerAssign sign a b)) x (record {
+      as-made (IsExpression E v os) (written line (bare (type_of a)) (PointerAssign sign a b)) x (record {
         typed = λ i. (
           t,
           h.typed i,

@@ -7,7 +7,7 @@ use Rattle.pv_types.specs.Ty.{Ty, Tys, NoTys, MoreTys, VoidTy, IntTy, PointerTo,
 use Rattle.pv_typed.specs.Known.{Each}
 use Rattle.pv_typed.specs.TypedTree.{TypedTree, Call, CallPointer, LibraryCall, arguments_of, type_of}
 use Rattle.pv_typed.specs.TypedUnits.{WholeUnit, layouts, function_at}
-use Rattle.pv_types.specs.Sorts.{pointed_by, is_void, bare as unqualified}
+use Rattle.pv_types.specs.Sorts.{pointed_by, is_void, bare}
 use Rattle.pv_check.specs.Values.{written, promoted_value, assigned}
 use Rattle.pv_check.specs.Calls.{further, passed, may_pass, called, call_at, call_to}
 use Rattle.pv_check.specs.CallParts.{more, library_call, program_call, pointed_call, call_through, call_of}
@@ -67,7 +67,7 @@ module _ (E : Type 0) (v : WholeUnit) (os : List ℕ) where
       let q = assigned-row E v os t a h.0 m.first m.one in
       subst (λ ys. ArePassed v os (MoreTys t ts) variadic (arguments_of ys)) m.is (
         q.converted.typed i,
-        has-type E v os (unqualified t) m.first q.converted,
+        has-type E v os (bare t) m.first q.converted,
         q.value,
         passed-row ts variadic rest h.1 m.rest m.others i,
       )

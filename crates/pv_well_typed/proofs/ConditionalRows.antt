@@ -12,7 +12,7 @@ use Rattle.pv_types.specs.Qualifiers.{is_const}
 use Rattle.pv_check.specs.Qualified.{qualified_if}
 use Rattle.pv_types.specs.SameTypes.{same_type as same}
 use Rattle.pv_check.specs.Sorts.{are_alike, has_void}
-use Rattle.pv_types.specs.Sorts.{is_scalar, bare as unqualified}
+use Rattle.pv_types.specs.Sorts.{is_scalar, bare}
 use Rattle.pv_check.specs.Composite.{composite}
 use Rattle.pv_check.specs.Values.{written, converted}
 use Rattle.pv_check.specs.Conditional.{pointer_type, result_type, conditional_of}
@@ -37,7 +37,7 @@ chosen-as v t u q r h e = subst (IsChosen v t u) (some-same q r e) h
 
 -- ---- 6.5.15p6: what two pointers give
 
-is-constant : (t : Ty) → is_const t ≡ true → (v : WholeUnit) → IsProper v t → IsValueOrVoid (unqualified t)
+is-constant : (t : Ty) → is_const t ≡ true → (v : WholeUnit) → IsProper v t → IsValueOrVoid (bare t)
 is-constant (ConstOf t) e v h = subst IsValueOrVoid (sym (plain-unqualified t h.0)) h.0
 is-constant VoidTy e v h = absurd cc
 is-constant (IntTy k) e v h = absurd cc
@@ -59,22 +59,22 @@ plain-no-function (ConstOf t) h = refl
 
 module _ (v : WholeUnit) where
   -- with `const` where one of the two has it, and so no function
-  proper-merged : (t u : Ty) → IsProper v t → IsProper v u → are_alike t u ≡ true → IsProper v (qualified_if (is_const t || is_const u) (composite (unqualified t) (unqualified u)))
+  proper-merged : (t u : Ty) → IsProper v t → IsProper v u → are_alike t u ≡ true → IsProper v (qualified_if (is_const t || is_const u) (composite (bare t) (bare u)))
   proper-merged t u h g e = by (is_const t) (is_const u) refl refl
     where
       c : Ty
-      c = composite (unqualified t) (unqualified u)
+      c = composite (bare t) (bare u)
 
-      proper : IsProper v (composite (unqualified t) (unqualified u))
-      proper = proper-composite v (unqualified t) (unqualified u) (matching (unqualified t) (unqualified u) e) (proper-unqualified v t h) (proper-unqualified v u g)
+      proper : IsProper v (composite (bare t) (bare u))
+      proper = proper-composite v (bare t) (bare u) (matching (bare t) (bare u) e) (proper-unqualified v t h) (proper-unqualified v u g)
 
-      by : (a b : Bool) → is_const t ≡ a → is_const u ≡ b → IsProper v (qualified_if (a || b) (composite (unqualified t) (unqualified u)))
+      by : (a b : Bool) → is_const t ≡ a → is_const u ≡ b → IsProper v (qualified_if (a || b) (composite (bare t) (bare u)))
       by true b p q =
-          proper-qualified-if v true (composite (unqualified t) (unqualified u)) proper
-          (composite-no-function (unqualified t) (unqualified u) (plain-no-function (unqualified t) (is-constant t p v h)))
+          proper-qualified-if v true (composite (bare t) (bare u)) proper
+          (composite-no-function (bare t) (bare u) (plain-no-function (bare t) (is-constant t p v h)))
       by false true p q =
-          proper-qualified-if v true (composite (unqualified t) (unqualified u)) proper
-          (composite-no-function (unqualified t) (unqualified u) (both-functions (unqualified t) (unqualified u) (is-constant u q v g) e))
+          proper-qualified-if v true (composite (bare t) (bare u)) proper
+          (composite-no-function (bare t) (bare u) (both-functions (bare t) (bare u) (is-constant u q v g) e))
       by false false p q = proper
 
   pointers-made : (t u w r : Ty) → IsProper v w → Some (PointerTo w) ≡ Some r → IsChosen v (PointerTo t) (PointerTo u) r
@@ -84,9 +84,9 @@ module _ (v : WholeUnit) where
   merged-row t u h g r e = by (are_alike t u) (has_void t u) refl e
     where
       by : (a b : Bool) → are_alike t u ≡ a
-          → (if a then Some (pointer_to (is_const t || is_const u) (composite (unqualified t) (unqualified u))) else (if b then Some (pointer_to (is_const t || is_const u) VoidTy) else None)) ≡ Some r
+          → (if a then Some (pointer_to (is_const t || is_const u) (composite (bare t) (bare u))) else (if b then Some (pointer_to (is_const t || is_const u) VoidTy) else None)) ≡ Some r
           → IsChosen v (PointerTo t) (PointerTo u) r
-      by true b p e = pointers-made t u (qualified_if (is_const t || is_const u) (composite (unqualified t) (unqualified u))) r (proper-merged t u h g p) e
+      by true b p e = pointers-made t u (qualified_if (is_const t || is_const u) (composite (bare t) (bare u))) r (proper-merged t u h g p) e
       by false true p e = pointers-made t u (qualified_if (is_const t || is_const u) VoidTy) r (proper-qualified-if v (is_const t || is_const u) VoidTy tt refl) e
       by false false p e = absurd cc
 

@@ -15,7 +15,7 @@ use Rattle.pv_check.specs.declared.words.TypeWords.{TypeWords}
 use Rattle.pv_check.specs.Derivations.{Derivation, ByPointer, ByArray, ByFunction, step, derived, adjusted}
 use Rattle.pv_check.specs.DerivationParts.{pointer_to, function_of}
 use Rattle.pv_check.specs.Qualified.{qualified, with_const}
-use Rattle.pv_types.specs.Sorts.{bare as unqualified}
+use Rattle.pv_types.specs.Sorts.{bare}
 use Rattle.pv_check.specs.Sorts.{is_array}
 use Rattle.pv_typed.specs.TypedTree.{is_function}
 use Rattle.pv_check.specs.Specifiers.{Seen, Specified, one_storage, with_keyword, with_type, base_type, specified, is_plain}
@@ -146,10 +146,10 @@ module _ (v : WholeUnit) where
     function-proper : (ts : Tys) (t u : Ty) → IsProper v t → function_of ts false t ≡ Some u → IsProper v u
     function-proper ts t u h e = by (is_function t) (is_array t) refl refl e
       where
-        by : (b c : Bool) → is_function t ≡ b → is_array t ≡ c → (if b then None else (if c then None else Some (FunctionTy (unqualified t) ts false))) ≡ Some u → IsProper v u
+        by : (b c : Bool) → is_function t ≡ b → is_array t ≡ c → (if b then None else (if c then None else Some (FunctionTy (bare t) ts false))) ≡ Some u → IsProper v u
         by true c p q e = absurd cc
         by false true p q e = absurd cc
-        by false false p q e = as-made (IsProper v) (FunctionTy (unqualified t) ts false) u (plain-value v t h q p, proper-unqualified v t h, λ e. absurd cc) e
+        by false false p q e = as-made (IsProper v) (FunctionTy (bare t) ts false) u (plain-value v t h q p, proper-unqualified v t h, λ e. absurd cc) e
 
     pointer-proper : (c : Bool) (t u : Ty) → IsProper v t → pointer_to c t ≡ Some u → IsProper v u
     pointer-proper c t u h e = constant-proper c (PointerTo t) u h e
@@ -170,10 +170,10 @@ module _ (v : WholeUnit) where
     function-made : (ts : Tys) (c : Bool) (t u : Ty) → function_of ts c t ≡ Some u → is_function u ≡ true
     function-made ts c t u e = by (is_function t) (is_array t) e
       where
-        by : (a b : Bool) → (if a then None else (if b then None else Some (FunctionTy (unqualified t) ts c))) ≡ Some u → is_function u ≡ true
+        by : (a b : Bool) → (if a then None else (if b then None else Some (FunctionTy (bare t) ts c))) ≡ Some u → is_function u ≡ true
         by true b e = absurd cc
         by false true e = absurd cc
-        by false false e = as-made (λ w. is_function w ≡ true) (FunctionTy (unqualified t) ts c) u refl e
+        by false false e = as-made (λ w. is_function w ≡ true) (FunctionTy (bare t) ts c) u refl e
 
     step-named : (unsized : Bool) (d : Derivation) (t u : Ty) → IsProper v t → step unsized es d t ≡ Some u → is_function u ≡ false → IsProper v u
     step-named b (ByPointer c) t u h e f = step-proper b (ByPointer c) t u tt h e
@@ -191,10 +191,10 @@ module _ (v : WholeUnit) where
     function-any : AreFixed v → (ts : Tys) (c : Bool) (t u : Ty) → IsProper v t → function_of ts c t ≡ Some u → IsProper v u
     function-any fixed ts c t u h e = by (is_function t) (is_array t) refl refl e
       where
-        by : (b d : Bool) → is_function t ≡ b → is_array t ≡ d → (if b then None else (if d then None else Some (FunctionTy (unqualified t) ts c))) ≡ Some u → IsProper v u
+        by : (b d : Bool) → is_function t ≡ b → is_array t ≡ d → (if b then None else (if d then None else Some (FunctionTy (bare t) ts c))) ≡ Some u → IsProper v u
         by true d p q e = absurd cc
         by false true p q e = absurd cc
-        by false false p q e = as-made (IsProper v) (FunctionTy (unqualified t) ts c) u (plain-value v t h q p, proper-unqualified v t h, λ i. fixed) e
+        by false false p q e = as-made (IsProper v) (FunctionTy (bare t) ts c) u (plain-value v t h q p, proper-unqualified v t h, λ i. fixed) e
 
     step-any : AreFixed v → (unsized : Bool) (d : Derivation) (t u : Ty) → IsProper v t → step unsized es d t ≡ Some u → IsProper v u
     step-any fixed b (ByPointer c) t u h e = pointer-proper c t u h e

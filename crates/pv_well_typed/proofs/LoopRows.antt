@@ -8,7 +8,7 @@ use Rattle.pv_typed.specs.TypedTree.{TypedTree}
 use Rattle.pv_typed.specs.TypedStatement as typed
 use Rattle.pv_typed.specs.TypedStatement.{TypedStatement, statements_of}
 use Rattle.pv_typed.specs.TypedUnits.{WholeUnit}
-use Rattle.pv_types.specs.Sorts.{is_void, bare as unqualified}
+use Rattle.pv_types.specs.Sorts.{is_void, bare}
 use Rattle.pv_check.specs.State.{State, After, give}
 use Rattle.pv_check.specs.Scopes.{entered, left}
 use Rattle.pv_typed.specs.Constants.{and_then}
@@ -110,7 +110,7 @@ module _ (v : WholeUnit) (done : IsFinished v) where
             typed = λ kept os here avoid.
                 let k = p.1 os here in
                 let c = assigned-row U v os q a.value k.0 e z in
-                ((q, c.converted.typed tt, has-type U v os (unqualified q) e c.converted, like.like), k.1);
+                ((q, c.converted.typed tt, has-type U v os (bare q) e c.converted, like.like), k.1);
           }) y i)
 
   pub returned-gives : (q r : Ty) → Returns q r → (line : ℕ) (o : OptionalTree) → OptionalCharacters o → (s : State) → Gives ⊥ v [] U s (StatementIn v r s) (returned q line o s)

@@ -9,7 +9,7 @@ use Rattle.pv_typed.specs.TypedTree.{TypedTree, type_of}
 use Rattle.pv_typed.specs.TypedUnits.{WholeUnit}
 use Rattle.pv_num.specs.Kinds.{promoted}
 use Rattle.pv_check.specs.Rows.{operand}
-use Rattle.pv_types.specs.Sorts.{kind_of, is_scalar, is_void_in, bare as unqualified, is_void as is_none}
+use Rattle.pv_types.specs.Sorts.{kind_of, is_scalar, is_void_in, bare, is_void as is_none}
 use Rattle.pv_check.specs.State.{State, After, give}
 use Rattle.pv_typed.specs.Constants.{and_then}
 use Rattle.pv_check.specs.Typing.{types}
@@ -38,7 +38,7 @@ abbrev pub Behind : {A : Type 0} → WholeUnit → State → (List ℕ → A →
 Behind v s R a = (os : List ℕ) → Here v os s → R os a.value × Here v os a.state
 
 -- 6.8.6.4p1: `void` in the words of both crates
-pub void-none : (t : Ty) → is_void_in (unqualified t) ≡ true → is_none t ≡ true
+pub void-none : (t : Ty) → is_void_in (bare t) ≡ true → is_none t ≡ true
 void-none VoidTy e = refl
 void-none (IntTy k) e = absurd cc
 void-none (PointerTo t) e = absurd cc

@@ -15,7 +15,7 @@ use Rattle.pv_typed.specs.Addresses.{is_null_constant}
 use Rattle.pv_typed.specs.TypedTree.{TypedTree, Node, Subscript, Indirection, Address, Unary, Not, Sizeof, Cast, type_of, is_lvalue, is_function}
 use Rattle.pv_typed.specs.TypedUnits.{WholeUnit, layouts}
 use Rattle.pv_check.specs.Sorts.{points_to_function, is_truth_kind}
-use Rattle.pv_types.specs.Sorts.{kind_in, kind_of, pointed_in, pointed_by, is_scalar_in, is_scalar, is_void_in, is_void, bare as unqualified}
+use Rattle.pv_types.specs.Sorts.{kind_in, kind_of, pointed_in, pointed_by, is_scalar_in, is_scalar, is_void_in, is_void, bare}
 use Rattle.pv_check.specs.SortParts.{is_function_if, is_truth}
 use Rattle.pv_check.specs.Values.{written, converted, value_of}
 use Rattle.pv_typed.specs.Constants.{and_then}
@@ -79,12 +79,12 @@ recast t u null p scalar e = by (points_to_function u) (points_to_function t) re
   where
     by : (b c : Bool) → points_to_function u ≡ b → points_to_function t ≡ c
         → (if b then points_to_function t || is_truth t else (if c then null else is_scalar t && is_scalar u)) ≡ true → (is_scalar t ≡ true) × IsScalarType u
-    by true c q r e = (either-scalar (unqualified t) e, scalar-type u p (pointer-scalar (unqualified u) q))
-    by false true q r e = (pointer-scalar (unqualified t) r, scalar e)
+    by true c q r e = (either-scalar (bare t) e, scalar-type u p (pointer-scalar (bare u) q))
+    by false true q r e = (pointer-scalar (bare t) r, scalar e)
     by false false q r e = let h = both-true (is_scalar t) (is_scalar u) e in (h.0, scalar-type u p h.1)
 
 -- what has a value, or none, is no function
-plain-no-function : (t : Ty) → IsValueOrVoid (unqualified t) → is_function t ≡ false
+plain-no-function : (t : Ty) → IsValueOrVoid (bare t) → is_function t ≡ false
 plain-no-function VoidTy h = refl
 plain-no-function (IntTy k) h = refl
 plain-no-function (PointerTo t) h = refl
@@ -117,12 +117,12 @@ void-cast u (UnionTag n) e = absurd cc
 void-cast u (FunctionTy t ts c) e = absurd cc
 void-cast u (ConstOf t) e = absurd cc
 
-may-cast : (t u : Ty) (null : Bool) → IsValueOrVoid u → (null ≡ true → IsScalarType u) → may_cast t u null ≡ true → Casts u (unqualified t)
+may-cast : (t u : Ty) (null : Bool) → IsValueOrVoid u → (null ≡ true → IsScalarType u) → may_cast t u null ≡ true → Casts u (bare t)
 may-cast t u null p scalar e = by (is_void t) refl e
   where
-    by : (b : Bool) → is_void t ≡ b → (if b then true else may_recast t u null) ≡ true → Casts u (unqualified t)
-    by true q e = void-cast u (unqualified t) q
-    by false q e = let h = recast t u null p scalar e in scalar-cast u (unqualified t) h.0 h.1
+    by : (b : Bool) → is_void t ≡ b → (if b then true else may_recast t u null) ≡ true → Casts u (bare t)
+    by true q e = void-cast u (bare t) q
+    by false q e = let h = recast t u null p scalar e in scalar-cast u (bare t) h.0 h.1
 
 module _ (E : Type 0) (v : WholeUnit) (os : List ℕ) (done : IsFinished v) (es : List Entry) (more : Extends es v) where
   -- 6.5.3.2p1, p3
@@ -232,10 +232,10 @@ module _ (E : Type 0) (v : WholeUnit) (os : List ℕ) (done : IsFinished v) (es 
   pub cast-row : (line : ℕ) (t : Ty) → (is_function t ≡ false → IsProper v t) → (a : TypedTree) → IsOperand E v os a → (x : TypedTree) → cast_of line t a ≡ Some x → IsExpression E v os x
   cast-row line t q a h x e = by (may_cast t (type_of a) (is_null_constant a)) refl e
     where
-      by : (b : Bool) → may_cast t (type_of a) (is_null_constant a) ≡ b → (if b then Some (written line (unqualified t) (Cast a)) else None) ≡ Some x → IsExpression E v os x
+      by : (b : Bool) → may_cast t (type_of a) (is_null_constant a) ≡ b → (if b then Some (written line (bare t) (Cast a)) else None) ≡ Some x → IsExpression E v os x
       by true p e =
           let may = may-cast t (type_of a) (is_null_constant a) h.plain (null-scalar a h.plain) p in
-          as-made (IsExpression E v os) (written line (unqualified t) (Cast a)) x (record {
+          as-made (IsExpression E v os) (written line (bare t) (Cast a)) x (record {
             typed = λ i. (h.typed i, has-value E v os a h, may.0);
             proper = proper-unqualified v t (q (plain-no-function t may.1));
             valued = λ n. (refl, may.1);
