@@ -3,7 +3,8 @@
 use Rattle.std.specs.Prelude.{ℕ, List, [], ◌∷◌, length, Option, Some, None, if◌then◌else◌, nat_lt, codes, option_map, option_and_then, unwrap_or, option_to_list}
 use Rattle.std.specs.Str.{bytes_eq}
 use Rattle.pv_serve.specs.Jobs.{default_turns}
-use Rattle.pv_serve.specs.Words.{once, file_name, number_to}
+use Rattle.pv_script.specs.Words.{number_to}
+use Rattle.pv_serve.specs.Words.{once, file_name}
 
 -- docs/FORMATS.md, Journals (5.1.2.3): a run: of the source in this file, with the script of addresses in that file, if one is named, and with so many turns at most
 pub record RunJob : Type 0 where

@@ -1,9 +1,10 @@
 -- A bridge: what functions answer that do a part of what Words says.
-use Rattle.pv_serve.specs.Words.{number_to, file_name, Options, once, zap_of, sides_in, are_sides, one_more, no_options, run_by, options, settled_by}
+use Rattle.pv_script.specs.Words.{number_to}
+use Rattle.pv_serve.specs.Words.{file_name, Options, once, zap_of, sides_in, are_sides, one_more, no_options, run_by, options, settled_by}
 use Rattle.pv_serve.specs.Jobs.{FileJob, Files, Generated, Job}
 use Rattle.pv_serve.specs.declared.words.Mode.TheVariants as whose
-use Rattle.std.specs.Prelude.{List, ℕ, Option, Bool, ◌||◌, ◌==◌, Some, option_map, None, if◌then◌else◌, nat_le}
-use Rattle.std.specs.Option.{option_and_then, option_or}
+use Rattle.std.specs.Prelude.{List, ℕ, Option, Bool, ◌||◌, ◌==◌, Some, option_map, None, if◌then◌else◌}
+use Rattle.std.specs.Option.{option_or}
 
 -- docs/FORMATS.md, Words: the value of `--turns`
 abbrev pub turns_of : List ℕ → Option ℕ
@@ -40,10 +41,6 @@ run_of file rest = option_map (run_by file) (options whose.Run no_options rest)
 -- docs/FORMATS.md, Words (the memory model): `settle FILE` with these words behind it
 abbrev pub settle_of : (file : List ℕ) → List (List ℕ) → Option FileJob
 settle_of file rest = option_map (settled_by file) (options whose.Settle no_options rest)
-
--- docs/FORMATS.md, Words: no number above this one
-abbrev pub up_to : ℕ → Option ℕ → Option ℕ
-up_to most n = option_and_then (λ n. if nat_le n most then Some n else None) n
 
 -- docs/FORMATS.md, Words (5.1.2.2.1p2): the job of a generated source, or a file's
 abbrev pub either : Option ℕ → Option FileJob → Option Job

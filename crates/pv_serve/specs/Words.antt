@@ -1,10 +1,10 @@
 -- What the words of the command line ask for (5.1.2.2.1p2: a program's parameters). Which words there are is this program's own: docs/FORMATS.md
 -- has the rules.
-use Rattle.std.specs.Prelude.{ℕ, ◌+◌, ◌-◌, ◌*◌, Bool, List, [], ◌∷◌, length, map, Option, Some, None, if◌then◌else◌, ◌==◌, nat_le, nat_lt, codes, option_map, option_and_then, unwrap_or, String, string_bytes, true, false, ◌||◌, ◌&&◌}
+use Rattle.std.specs.Prelude.{ℕ, Bool, List, [], ◌∷◌, length, map, Option, Some, None, if◌then◌else◌, ◌==◌, nat_lt, codes, option_map, option_and_then, unwrap_or, String, string_bytes, true, false, ◌||◌, ◌&&◌}
 use Rattle.std.specs.Str.{bytes_eq}
 use Rattle.std.specs.List.{list_all}
-use Rattle.std.specs.Char.{is_ascii_digit}
 use Rattle.std.specs.declared.alloc.Global.{Global}
+use Rattle.pv_script.specs.Words.{number_to}
 use Rattle.pv_serve.specs.declared.words.Task.{Task}
 use Rattle.pv_serve.specs.declared.words.Task.TheVariants as task
 use Rattle.pv_serve.specs.declared.words.Watched.{Watched}
@@ -16,18 +16,6 @@ use Rattle.std.specs.Option.{option_or}
 -- 5.1.2.2.1p2: a word is a string: the bytes of each
 abbrev pub texts : List (String Global) → List (List ℕ)
 texts words = map string_bytes words
-
--- ---- numbers
-
--- docs/FORMATS.md, Words (5.1.2.2.1p2): the number that decimal digits go on to spell after n
-abbrev pub digits_from : ℕ → List ℕ → Option ℕ
-digits_from n [] = Some n
-digits_from n (d ∷ ds) = if is_ascii_digit d then digits_from (n * 10 + (d - 48)) ds else None
-
--- docs/FORMATS.md, Words (5.1.2.2.1p2): decimal digits without a leading zero, for a number from 1 to this one
-abbrev pub number_to : (most : ℕ) → List ℕ → Option ℕ
-number_to most [] = None
-number_to most (d ∷ ds) = if d == 48 then None else option_and_then (λ n. if nat_le n most then Some n else None) (digits_from 0 (d ∷ ds))
 
 -- ---- the values of options
 

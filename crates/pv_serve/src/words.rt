@@ -2,6 +2,7 @@
 ghost use Rattle.std.specs.Prelude.{◌≡◌, ◌<◌, ◌≤◌, ◌&&◌, ◌||◌, ◌++◌, nat_lt, length, codes, IfSome, OnOk, IfOk, string_bytes};
 ghost use Rattle.std.specs.List.{list_all};
 ghost use Rattle.std.specs.Str.{bytes_eq};
+ghost use Rattle.pv_script.specs.Words.{number_to};
 ghost use Rattle.pv_serve.specs.Words as specified;
 ghost use Rattle.pv_serve.specs.WordParts as specified_parts;
 ghost use Rattle.pv_serve.specs.ReadWords as read_words;
@@ -128,7 +129,7 @@ pub fn generated(words: &[String]) -> Option<u32>
 
 // The number of a generated source.
 fn source_number(text: &str) -> Option<u32>
-    ensures value { result ≡ specified.number_to 8192 text.now }
+    ensures value { result ≡ number_to 8192 text.now }
     ensures range { IfSome result (λ n. (0 < n) × (n ≤ 8192)) }
 {
     let number = number_to(text, MOST_GENERATED)?;
@@ -467,22 +468,8 @@ fn turns_of(text: &str) -> Option<u64>
 /// A number from 1 to `most`: decimal, without a leading zero.
 pub fn number_to(text: &str, most: u64) -> Option<u64>
     requires { most ≤ 100000000 }
-    ensures value { result ≡ specified.number_to most text.now }
+    ensures value { result ≡ number_to most text.now }
     ensures range { IfSome result (λ n. (0 < n) × (n ≤ most)) }
 {
-    let digits = text.as_bytes();
-    if digits.is_empty() || digits[0] == b'0' {
-        return None;
-    }
-    let mut number = 0u64;
-    for digit in digits {
-        if !digit.is_ascii_digit() {
-            return None;
-        }
-        number = number * 10 + (*digit - b'0') as u64;
-        if number > most {
-            return None;
-        }
-    }
-    Some(number)
+    pv_script::number_to(text.as_bytes(), most)
 }
