@@ -23,7 +23,7 @@ use Rattle.pv_check.specs.AssignmentParts.{assigned_to, simple_of, arithmetic_ki
 use Rattle.pv_guards.specs.Typed.{MayBeRight}
 use Rattle.pv_well_typed.specs.Proper.{IsValueOrVoid, IsProper}
 use Rattle.pv_well_typed.specs.Later.{IsFinished, Extends}
-use Rattle.pv_well_typed.proofs.Types.{kind-type, integer-type, value-or-void, sized-later, proper-unqualified, some-complete}
+use Rattle.pv_well_typed.proofs.Types.{kind-type, integer-type, value-or-void, sized-later, proper-bare, some-complete}
 use Rattle.pv_well_typed.proofs.Operands.{IsExpression, IsOperand, has-value, has-type, integer-converted, as-made}
 use Rattle.pv_well_typed.proofs.Conversions.{assigned-row}
 use Rattle.pv_well_typed.proofs.Promotions.{promoted-wide, common-wide}
@@ -65,7 +65,7 @@ module _ (E : Type 0) (v : WholeUnit) (os : List ℕ) (done : IsFinished v) (es 
           let q = assigned-row E v os (type_of a) b g c p in
           as-made (IsExpression E v os) (written line (bare (type_of a)) (Assign a c)) x (record {
             typed = λ i. (h.typed i, m.place, q.converted.typed i, has-type E v os (bare (type_of a)) c q.converted, refl, sized-later v done es more (type_of a) h.proper m.complete, q.value);
-            proper = proper-unqualified v (type_of a) h.proper;
+            proper = proper-bare v (type_of a) h.proper;
             valued = λ n. (refl, value-or-void (bare (type_of a)) q.value);
           }) e
 
@@ -77,7 +77,7 @@ module _ (E : Type 0) (v : WholeUnit) (os : List ℕ) (done : IsFinished v) (es 
       let is : bare (type_of a) ≡ IntTy j = kind-inside (bare (type_of a)) j p in
       as-made (IsExpression E v os) (written line (bare (type_of a)) (CompoundAssign op k a (converted (IntTy r) b))) x (record {
         typed = λ i. (j, r, h.typed i, m.place, c.typed i, has-type E v os (IntTy r) (converted (IntTy r) b) c, is, refl, w, z, sized-later v done es more (type_of a) h.proper m.complete);
-        proper = proper-unqualified v (type_of a) h.proper;
+        proper = proper-bare v (type_of a) h.proper;
         valued = λ n. (refl, subst IsValueOrVoid (sym is) tt);
       }) e
 
@@ -109,7 +109,7 @@ module _ (E : Type 0) (v : WholeUnit) (os : List ℕ) (done : IsFinished v) (es 
   step-row line sign a b h m g (Some t) (Some k) q r x e =
       let found = some-complete es (pointed_by (type_of a)) t q in
       let is : bare (type_of a) ≡ PointerTo t = pointed-inside (bare (type_of a)) t found.0 in
-      let plain = proper-unqualified v (type_of a) h.proper in
+      let plain = proper-bare v (type_of a) h.proper in
       let proper : IsProper v t = subst (IsProper v) is plain in
       as-made (IsExpression E v os) (written line (bare (type_of a)) (PointerAssign sign a b)) x (record {
         typed = λ i. (

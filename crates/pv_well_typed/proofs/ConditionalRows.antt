@@ -20,7 +20,7 @@ use Rattle.pv_check.specs.ConditionalParts.{pointer_to, merged, type_of_chosen, 
 use Rattle.pv_check.proofs.Same.{same_equal, same_itself}
 use Rattle.pv_guards.specs.Typed.{IsScalarType, MayConvert}
 use Rattle.pv_well_typed.specs.Proper.{IsValueOrVoid, IsProper}
-use Rattle.pv_well_typed.proofs.Types.{plain-unqualified, scalar-type, proper-unqualified, proper-qualified-if}
+use Rattle.pv_well_typed.proofs.Types.{plain-bare, scalar-type, proper-bare, proper-qualified-if}
 use Rattle.pv_well_typed.proofs.Operands.{IsExpression, IsOperand, has-value, has-type, converted-row, as-made, some-same}
 use Rattle.pv_well_typed.proofs.Conversions.{null-scalar, one-type}
 use Rattle.pv_well_typed.proofs.Composites.{proper-composite, composite-no-function, both-functions}
@@ -38,7 +38,7 @@ chosen-as v t u q r h e = subst (IsChosen v t u) (some-same q r e) h
 -- ---- 6.5.15p6: what two pointers give
 
 is-constant : (t : Ty) → is_const t ≡ true → (v : WholeUnit) → IsProper v t → IsValueOrVoid (bare t)
-is-constant (ConstOf t) e v h = subst IsValueOrVoid (sym (plain-unqualified t h.0)) h.0
+is-constant (ConstOf t) e v h = subst IsValueOrVoid (sym (plain-bare t h.0)) h.0
 is-constant VoidTy e v h = absurd cc
 is-constant (IntTy k) e v h = absurd cc
 is-constant (PointerTo t) e v h = absurd cc
@@ -66,7 +66,7 @@ module _ (v : WholeUnit) where
       c = composite (bare t) (bare u)
 
       proper : IsProper v (composite (bare t) (bare u))
-      proper = proper-composite v (bare t) (bare u) (matching (bare t) (bare u) e) (proper-unqualified v t h) (proper-unqualified v u g)
+      proper = proper-composite v (bare t) (bare u) (matching (bare t) (bare u) e) (proper-bare v t h) (proper-bare v u g)
 
       by : (a b : Bool) → is_const t ≡ a → is_const u ≡ b → IsProper v (qualified_if (a || b) (composite (bare t) (bare u)))
       by true b p q =

@@ -27,7 +27,7 @@ use Rattle.pv_guards.specs.Typed.{AreFixed}
 use Rattle.pv_well_typed.specs.Proper.{IsProper}
 use Rattle.pv_well_typed.specs.Later.{Extends}
 use Rattle.pv_well_typed.proofs.Operands.{as-made, some-same}
-use Rattle.pv_well_typed.proofs.Types.{complete-later, layout-later, plain-value, proper-unqualified, proper-qualified}
+use Rattle.pv_well_typed.proofs.Types.{complete-later, layout-later, plain-value, proper-bare, proper-qualified}
 use Rattle.pv_well_typed.proofs.UnaryRows.{both-true}
 
 -- where there is an answer, there was one before
@@ -149,7 +149,7 @@ module _ (v : WholeUnit) where
         by : (b c : Bool) → is_function t ≡ b → is_array t ≡ c → (if b then None else (if c then None else Some (FunctionTy (bare t) ts false))) ≡ Some u → IsProper v u
         by true c p q e = absurd cc
         by false true p q e = absurd cc
-        by false false p q e = as-made (IsProper v) (FunctionTy (bare t) ts false) u (plain-value v t h q p, proper-unqualified v t h, λ e. absurd cc) e
+        by false false p q e = as-made (IsProper v) (FunctionTy (bare t) ts false) u (plain-value v t h q p, proper-bare v t h, λ e. absurd cc) e
 
     pointer-proper : (c : Bool) (t u : Ty) → IsProper v t → pointer_to c t ≡ Some u → IsProper v u
     pointer-proper c t u h e = constant-proper c (PointerTo t) u h e
@@ -194,7 +194,7 @@ module _ (v : WholeUnit) where
         by : (b d : Bool) → is_function t ≡ b → is_array t ≡ d → (if b then None else (if d then None else Some (FunctionTy (bare t) ts c))) ≡ Some u → IsProper v u
         by true d p q e = absurd cc
         by false true p q e = absurd cc
-        by false false p q e = as-made (IsProper v) (FunctionTy (bare t) ts c) u (plain-value v t h q p, proper-unqualified v t h, λ i. fixed) e
+        by false false p q e = as-made (IsProper v) (FunctionTy (bare t) ts c) u (plain-value v t h q p, proper-bare v t h, λ i. fixed) e
 
     step-any : AreFixed v → (unsized : Bool) (d : Derivation) (t u : Ty) → IsProper v t → step unsized es d t ≡ Some u → IsProper v u
     step-any fixed b (ByPointer c) t u h e = pointer-proper c t u h e

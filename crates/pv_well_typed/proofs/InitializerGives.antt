@@ -39,7 +39,7 @@ use Rattle.pv_well_typed.proofs.SourceCharacters.{InitializerCharacters, TreesCh
 use Rattle.pv_well_typed.specs.Later.{IsFinished, Later}
 use Rattle.pv_well_typed.specs.Proper.{IsValueOrVoid, IsProper}
 use Rattle.pv_well_typed.specs.ProperStates.{IsProperState, IsVisible, AreVisible}
-use Rattle.pv_well_typed.proofs.Types.{plain-bare, complete-later, layout-later}
+use Rattle.pv_well_typed.proofs.Types.{plain-bare, complete-later, layout-later, proper-bare}
 use Rattle.pv_well_typed.proofs.Operands.{IsOperand, has-type, some-same}
 use Rattle.pv_well_typed.proofs.Conversions.{IsAssigned, assigned-row}
 use Rattle.pv_well_typed.proofs.Changes.{literal-later}
@@ -49,7 +49,7 @@ use Rattle.pv_well_typed.proofs.Literals.{written-orderly, text-bytes}
 use Rattle.pv_well_typed.proofs.Walk.{U}
 use Rattle.pv_well_typed.proofs.StatementRows.{Here, Behind, valued-everywhere}
 use Rattle.pv_well_typed.proofs.BlockRows.{GivenIn}
-use Rattle.pv_well_typed.proofs.PartRows.{can-complete, can-bare, can-grown, proper-bare, sized-size, sized-more, character-byte, IsPart, part-at-found, zero-found}
+use Rattle.pv_well_typed.proofs.PartRows.{can-complete, can-bare, can-grown, sized-size, sized-more, character-byte, IsPart, part-at-found, zero-found}
 use Rattle.pv_well_typed.proofs.ConstantRows.{constant-good}
 
 -- ---- answers of initializers, as those of expressions

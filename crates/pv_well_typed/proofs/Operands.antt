@@ -15,7 +15,7 @@ use Rattle.pv_check.proofs.Same.{same_equal}
 use Rattle.pv_guards.specs.Typed.{IsTyped, IsValueType, MayConvert, HasType, HasValue, given_type}
 use Rattle.pv_well_typed.specs.Proper.{IsValueOrVoid, IsProper}
 use Rattle.pv_well_typed.specs.Later.{IsFinished, Extends}
-use Rattle.pv_well_typed.proofs.Types.{held-value, sized-later, value-or-void, proper-unqualified}
+use Rattle.pv_well_typed.proofs.Types.{held-value, sized-later, value-or-void, proper-bare}
 
 -- what typing gives: where E is so (nothing of it stands in the operand of sizeof, and its names are in scope) it is well typed; its
 -- type is one that declarations make, and where it is no lvalue it has a value of it, or none
@@ -106,7 +106,7 @@ module _ (E : Type 0) (v : WholeUnit) (os : List ℕ) where
             let value : IsValueType (bare t) = held-value v es t proper c plain in
             as-made (IsOperand E v os) (implied (line_of a) (bare t) (Read a)) x (record {
               typed = λ i. (h.typed i, place, ap bare (sym is), sized-later v done es more (type_of a) h.proper (ap (is_complete_in es) is ∙ c), value);
-              proper = proper-unqualified v t proper;
+              proper = proper-bare v t proper;
               value = refl;
               given = refl;
               plain = value-or-void (bare t) value;

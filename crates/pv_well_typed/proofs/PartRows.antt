@@ -21,7 +21,7 @@ use Rattle.pv_unit.specs.InitializerParts.{zero_leaf}
 use Rattle.pv_well_typed.specs.Proper.{IsProper}
 use Rattle.pv_well_typed.specs.Later.{Extends}
 use Rattle.pv_well_typed.specs.ProperStates.{IsMember, IsCompleted}
-use Rattle.pv_well_typed.proofs.Types.{plain-bare, layout-later}
+use Rattle.pv_well_typed.proofs.Types.{plain-bare, layout-later, proper-bare}
 use Rattle.pv_well_typed.proofs.UnaryRows.{both-true}
 use Rattle.pv_well_typed.proofs.MemberRows.{IsFound, found-before, found-as, HasMembers, members-of, none-found, struct-size, union-size}
 use Rattle.pv_well_typed.proofs.Moving.{Grows}
@@ -62,16 +62,6 @@ can-append es more (ConstOf t) h = complete-append es more (ConstOf t) h ∙ h
 
 pub can-grown : (es fs : List Entry) (t : Ty) → Grows es fs → can_be_initialized es t ≡ true → can_be_initialized fs t ≡ true
 can-grown es fs t g h = subst (λ (xs : List Entry). can_be_initialized xs t ≡ true) (sym g.1) (can-append es g.0 t h)
-
-pub proper-bare : (v : WholeUnit) (t : Ty) → IsProper v t → IsProper v (bare t)
-proper-bare v VoidTy h = tt
-proper-bare v (IntTy k) h = tt
-proper-bare v (PointerTo t) h = h
-proper-bare v (ArrayOf t n) h = h
-proper-bare v (StructTag n) h = h
-proper-bare v (UnionTag n) h = h
-proper-bare v (FunctionTy t ts c) h = h
-proper-bare v (ConstOf t) h = proper-bare v t h.1
 
 -- 6.2.5p26: as large as without qualifiers
 pub bare-size : (es : List Entry) (t : Ty) → (layout_in es (bare t)).size ≡ (layout_in es t).size

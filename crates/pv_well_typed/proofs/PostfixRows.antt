@@ -18,7 +18,7 @@ use Rattle.pv_guards.specs.Typed.{IsSized, IsValueType, MayStep}
 use Rattle.pv_well_typed.specs.Proper.{IsValueOrVoid, IsProper}
 use Rattle.pv_well_typed.specs.Later.{IsFinished, Extends}
 use Rattle.pv_well_typed.specs.ProperStates.{IsCompleted}
-use Rattle.pv_well_typed.proofs.Types.{integer-type, pointed-type, held-value, value-or-void, sized-later, layout-later, no-function, proper-unqualified, proper-qualified-if, ToComplete}
+use Rattle.pv_well_typed.proofs.Types.{integer-type, pointed-type, held-value, value-or-void, sized-later, layout-later, no-function, proper-bare, proper-qualified-if, ToComplete}
 use Rattle.pv_well_typed.proofs.Operands.{IsExpression, IsOperand, has-value, has-value-as, as-made}
 use Rattle.pv_well_typed.proofs.UnaryRows.{both-true}
 use Rattle.pv_well_typed.proofs.BinaryRows.{complete-at}
@@ -113,7 +113,7 @@ module _ (E : Type 0) (v : WholeUnit) (os : List ℕ) (done : IsFinished v) (es 
           let m = modified es a both.0 in
           as-made (IsExpression E v os) (written line (bare (type_of a)) (Increment op a)) x (record {
             typed = λ i. (h.typed i, m.place, refl, step-kind (type_of a) h.proper both.1, sized-later v done es more (type_of a) h.proper m.complete);
-            proper = proper-unqualified v (type_of a) h.proper;
+            proper = proper-bare v (type_of a) h.proper;
             valued = λ n. (refl, value-or-void (bare (type_of a)) (held-value v es (type_of a) h.proper m.complete m.single));
           }) e
       by false q e = absurd cc
@@ -165,7 +165,7 @@ module _ (E : Type 0) (v : WholeUnit) (os : List ℕ) (done : IsFinished v) (ds 
       by true q e = absurd cc
       by false q e =
           let value : IsValueType (bare p.t) = held-value v (layouts_of ds) p.t m.proper m.complete q in
-          let proper = proper-unqualified v p.t m.proper in
+          let proper = proper-bare v p.t m.proper in
           as-made (IsExpression E v os) (written line (bare p.t) (MemberOfValue a p.offset)) x (record {
             typed = λ i. (
               h.typed i,

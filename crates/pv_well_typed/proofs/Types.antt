@@ -19,29 +19,26 @@ use Rattle.pv_guards.specs.Typed.{IsSized, IsValueType, IsScalarType, IsIntegerT
 use Rattle.pv_well_typed.specs.Proper.{IsValueOrVoid, IsSmallArray, IsProper}
 use Rattle.pv_well_typed.specs.Later.{IsFinished, Extends}
 
-pub proper-unqualified : (v : WholeUnit) (t : Ty) → IsProper v t → IsProper v (bare t)
-proper-unqualified v VoidTy h = tt
-proper-unqualified v (IntTy k) h = tt
-proper-unqualified v (PointerTo t) h = h
-proper-unqualified v (ArrayOf t n) h = h
-proper-unqualified v (StructTag n) h = h
-proper-unqualified v (UnionTag n) h = h
-proper-unqualified v (FunctionTy t ts c) h = h
-proper-unqualified v (ConstOf t) h = proper-unqualified v t h.1
+pub proper-bare : (v : WholeUnit) (t : Ty) → IsProper v t → IsProper v (bare t)
+proper-bare v VoidTy h = tt
+proper-bare v (IntTy k) h = tt
+proper-bare v (PointerTo t) h = h
+proper-bare v (ArrayOf t n) h = h
+proper-bare v (StructTag n) h = h
+proper-bare v (UnionTag n) h = h
+proper-bare v (FunctionTy t ts c) h = h
+proper-bare v (ConstOf t) h = proper-bare v t h.1
 
 -- a type that stands without qualifiers
-pub plain-unqualified : (t : Ty) → IsValueOrVoid t → bare t ≡ t
-plain-unqualified VoidTy h = refl
-plain-unqualified (IntTy k) h = refl
-plain-unqualified (PointerTo t) h = refl
-plain-unqualified (ArrayOf t n) h = absurd h
-plain-unqualified (StructTag n) h = refl
-plain-unqualified (UnionTag n) h = refl
-plain-unqualified (FunctionTy t ts c) h = absurd h
-plain-unqualified (ConstOf t) h = absurd h
-
 pub plain-bare : (t : Ty) → IsValueOrVoid t → bare t ≡ t
-plain-bare t h = plain-unqualified t h
+plain-bare VoidTy h = refl
+plain-bare (IntTy k) h = refl
+plain-bare (PointerTo t) h = refl
+plain-bare (ArrayOf t n) h = absurd h
+plain-bare (StructTag n) h = refl
+plain-bare (UnionTag n) h = refl
+plain-bare (FunctionTy t ts c) h = absurd h
+plain-bare (ConstOf t) h = absurd h
 
 -- what a value's type is, it is one of these
 pub value-or-void : (t : Ty) → IsValueType t → IsValueOrVoid t
@@ -74,7 +71,7 @@ held-value v es (ArrayOf t n) p h a = absurd cc
 held-value v es (StructTag n) p h a = tt
 held-value v es (UnionTag n) p h a = tt
 held-value v es (FunctionTy t ts c) p h a = absurd cc
-held-value v es (ConstOf t) p h a = subst IsValueType (sym (plain-unqualified t p.0)) (complete-value es t p.0 h)
+held-value v es (ConstOf t) p h a = subst IsValueType (sym (plain-bare t p.0)) (complete-value es t p.0 h)
 
 -- without qualifiers, a type that is neither an array nor a function
 pub plain-value : (v : WholeUnit) (t : Ty) → IsProper v t → is_array t ≡ false → is_function t ≡ false → IsValueOrVoid (bare t)
@@ -85,7 +82,7 @@ plain-value v (ArrayOf t n) p a f = absurd cc
 plain-value v (StructTag n) p a f = tt
 plain-value v (UnionTag n) p a f = tt
 plain-value v (FunctionTy t ts c) p a f = absurd cc
-plain-value v (ConstOf t) p a f = subst IsValueOrVoid (sym (plain-unqualified t p.0)) p.0
+plain-value v (ConstOf t) p a f = subst IsValueOrVoid (sym (plain-bare t p.0)) p.0
 
 -- ---- sizes
 

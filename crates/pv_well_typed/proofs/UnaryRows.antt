@@ -24,7 +24,7 @@ use Rattle.pv_check.specs.UnaryParts.{arithmetic_at, address_of, indirection_to,
 use Rattle.pv_guards.specs.Typed.{IsTyped, IsScalarType, MayCast}
 use Rattle.pv_well_typed.specs.Proper.{IsValueOrVoid, IsProper}
 use Rattle.pv_well_typed.specs.Later.{IsFinished, Extends}
-use Rattle.pv_well_typed.proofs.Types.{kind-type, pointed-type, scalar-type, small, complete-later, layout-later, no-function, proper-unqualified}
+use Rattle.pv_well_typed.proofs.Types.{kind-type, pointed-type, scalar-type, small, complete-later, layout-later, no-function, proper-bare}
 use Rattle.pv_well_typed.proofs.Operands.{IsExpression, IsOperand, has-value, has-value-as, has-type, integer-converted, value-row as taken, as-made}
 use Rattle.pv_well_typed.proofs.Conversions.{null-scalar}
 use Rattle.pv_well_typed.proofs.Promotions.{promoted-wide}
@@ -237,7 +237,7 @@ module _ (E : Type 0) (v : WholeUnit) (os : List ℕ) (done : IsFinished v) (es 
           let may = may-cast t (type_of a) (is_null_constant a) h.plain (null-scalar a h.plain) p in
           as-made (IsExpression E v os) (written line (bare t) (Cast a)) x (record {
             typed = λ i. (h.typed i, has-value E v os a h, may.0);
-            proper = proper-unqualified v t (q (plain-no-function t may.1));
+            proper = proper-bare v t (q (plain-no-function t may.1));
             valued = λ n. (refl, may.1);
           }) e
       by false p e = absurd cc
