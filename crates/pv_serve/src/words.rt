@@ -96,7 +96,9 @@ pub struct Asked<'a> {
 /// The modes whose words have options.
 #[derive(Clone, Copy)]
 pub enum Mode {
+    /// `run`, which may be watched.
     Run,
+    /// `settle`, which tells or is told the sides of pairs.
     Settle,
 }
 
