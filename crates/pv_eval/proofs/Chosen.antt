@@ -1,17 +1,17 @@
 -- An operation by its guard: what the world did, or the end of the run as by a missing value.
-use Rattle.std.proofs.Common.{◌≡◌, ℕ, true, false, List, [], ◌++◌, length, None, refl, sym, ap, ◌∙◌, subst, append-nil}
-use Rattle.std.specs.Prelude.{Result, Err, if◌then◌else◌}
+use Rattle.std.proofs.Common.{◌≡◌, ℕ, true, false, List, [], ◌++◌, length, None, refl, sym, ap, ◌∙◌, subst}
+use Rattle.std.specs.Prelude.{Result, Err}
 use Rattle.pv_types.specs.Known.{Known}
 use Rattle.pv_typed.specs.TypedUnits.{WholeUnit}
 use Rattle.pv_typed.specs.Tables.{Stored, whole}
 use Rattle.pv_watch.specs.declared.event.What.{What}
 use Rattle.pv_world.specs.declared.got.Failure.{Failure}
-use Rattle.pv_world.specs.Worlds.{Worth, World, Wrong}
+use Rattle.pv_world.specs.Worlds.{Worth, World}
 use Rattle.pv_world.specs.Worths.{missing_value}
-use Rattle.pv_world.specs.Telling.{quiet, fault_of, verdict_of}
-use Rattle.pv_world.specs.Doing.{Done, Fails}
-use Rattle.pv_world.specs.Coming.{Did, Came, Faulted, Ended, seen}
-use Rattle.pv_world.proofs.Comings.{came_fails}
+use Rattle.pv_world.specs.Telling.{fault_of, verdict_of}
+use Rattle.pv_world.specs.Doing.{Done}
+use Rattle.pv_world.specs.Coming.{Did, Came, Faulted, seen}
+use Rattle.pv_world.proofs.Guards as looked
 use Rattle.pv_eval.specs.declared.marked.Marked.{Marked}
 use Rattle.pv_eval.specs.States.{Setting, Res}
 use Rattle.pv_eval.specs.Acting.{acted}
@@ -20,24 +20,13 @@ use Rattle.pv_eval.specs.Operations as op
 use Rattle.pv_eval.specs.Operations.{Op, suits, works, does, act}
 use Rattle.pv_eval.specs.Sizes.{setting_of}
 
--- a fault that nothing is blamed for, where nothing was told before it
-pub failed : {A : Type 0} (give : A → Worth) (f : Failure) (y : Wrong) (w : World) (es fs : List What)
-    → Faulted f y fs (es ++ fault_of None (verdict_of y)) → Came give (Err f) w fs (seen es w (Fails y None w quiet))
-failed give f y w es fs h =
-    came_fails give f y w fs (es ++ fault_of None (verdict_of y)) (seen es w (Fails y None w quiet)) (ap (λ z. Ended y w (z ++ fault_of None (verdict_of y))) (append-nil es)) h
-
+-- an operation of a run, by whether its operands suit
 module _ {A : Type 0} (give : A → Worth) (b : Setting) (o : Op) (w : World) where
-  does_suited : suits b o w ≡ true → does b o w ≡ works b o w
-  does_suited e = ap (λ t. if t then works b o w else Fails missing_value None w quiet) e
-
-  does_unsuited : suits b o w ≡ false → does b o w ≡ Fails missing_value None w quiet
-  does_unsuited e = ap (λ t. if t then works b o w else Fails missing_value None w quiet) e
-
   pub suited : (r : Result A Failure) (v : World) (es fs : List What) → suits b o w ≡ true → Did give (works b o) r w v es fs → Did give (does b o) r w v es fs
-  suited r v es fs e h = subst (λ d. Came give r v fs (seen es w d)) (sym (does_suited e)) h
+  suited r v es fs e h = looked.suited give (works b o) w (suits b o w) r v es fs e h
 
   pub unsuited : (f : Failure) (es fs : List What) → suits b o w ≡ false → Faulted f missing_value fs (es ++ fault_of None (verdict_of missing_value)) → Did give (does b o) (Err f) w w es fs
-  unsuited f es fs e h = subst (λ d. Came give (Err f) w fs (seen es w d)) (sym (does_unsuited e)) (failed give f missing_value w es fs h)
+  unsuited f es fs e h = looked.unsuited give (works b o) w (suits b o w) f es fs e h
 
 -- what an operation does rests on the unit and the numbers of its types alone
 abbrev plain : Setting → Setting

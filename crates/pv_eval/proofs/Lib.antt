@@ -10,7 +10,7 @@ mod Pointed
 pub mod Marking
 pub mod Given
 pub mod Machining
-pub mod Guards
+pub mod Asked
 pub mod Chosen
 pub mod Settings
 pub mod Allowing
@@ -20,6 +20,7 @@ pub mod Rivals
 pub mod Through
 pub mod Reaches
 pub mod Possible
+pub mod BySize
 pub mod Replies
 pub mod Printing
 pub mod Sides

@@ -29,7 +29,7 @@ use Rattle.pv_eval.specs.declared.codes.Code.TheVariants as code
 use Rattle.pv_eval.specs.TypeForms.{shape_of}
 use Rattle.pv_eval.specs.Sizes.{points}
 use Rattle.pv_eval.specs.Conversions.{how_to}
-use Rattle.pv_eval.specs.Suiting.{is_small}
+use Rattle.pv_world.specs.Suiting.{is_small}
 use Rattle.pv_eval.specs.States.{Setting, State, Gives}
 use Rattle.pv_eval.specs.Steps.{converted, is_minus}
 use Rattle.pv_eval.specs.Ahead.{first_operand_of}

@@ -21,13 +21,13 @@ use Rattle.pv_world.specs.Doing.{Answers, Fails}
 use Rattle.pv_world.specs.Conversions.{opposite, tests, truth_by as truth_of}
 use Rattle.pv_world.specs.Pointers.{equals, equal_by as equal_of}
 use Rattle.pv_eval.specs.States.{then_do}
-use Rattle.pv_eval.specs.Suiting.{knows}
+use Rattle.pv_world.specs.Suiting.{knows}
 use Rattle.pv_eval.specs.Operations.{Equals, Negates, Tests, does}
 use Rattle.pv_eval.specs.Sequenced.{done, work}
 use Rattle.pv_eval.specs.Steps.{converted, is_unequal}
 use Rattle.pv_eval.specs.declared.plain.Found.{Found}
 use Rattle.pv_eval.specs.Plainly.{setting_by, turned, has_read, GivesAt, GivesWithBoth, IsConverted, IsLooked, found_worth}
-use Rattle.pv_eval.proofs.Guards.{both_of}
+use Rattle.pv_world.proofs.Guards.{both_of}
 use Rattle.pv_eval.proofs.PlainNumbers.{act_gives}
 
 module _ (w : World) where

@@ -42,8 +42,8 @@ use Rattle.pv_eval.specs.Evaluation.{ev}
 use Rattle.pv_eval.specs.TypeForms.{kind_of, shape_of, pointed_to}
 use Rattle.pv_types.specs.Sorts.{is_void as is_none}
 use Rattle.pv_eval.specs.Conversions.{how_to_int, how_by, how_to}
-use Rattle.pv_eval.specs.Suiting.{is_small, is_promoted, is_operand}
-use Rattle.pv_eval.proofs.Guards.{both_of}
+use Rattle.pv_world.specs.Suiting.{is_small, is_promoted, is_operand}
+use Rattle.pv_world.proofs.Guards.{both_of}
 use Rattle.pv_eval.specs.declared.plain.Found.{Found}
 use Rattle.pv_eval.specs.declared.plain.Found.TheVariants as found
 use Rattle.pv_eval.specs.Plainly.{setting_by, turned, has_read, GivesAlone, GivesWith, GivesWithBoth, AlwaysGives, GivesAt, IsConverted, pointer_at, found_worth}

@@ -31,14 +31,14 @@ use Rattle.pv_eval.specs.States.{then_do}
 use Rattle.pv_eval.specs.TypeForms.{element_size}
 use Rattle.pv_types.specs.Sorts.{is_pointer}
 use Rattle.pv_eval.specs.Sizes.{setting_of}
-use Rattle.pv_eval.specs.Suiting.{knows_worth, is_small, is_size}
+use Rattle.pv_world.specs.Suiting.{knows_worth, is_small, is_size}
 use Rattle.pv_eval.specs.Operations.{Moves, Selects, does}
 use Rattle.pv_eval.specs.Sequenced.{done}
 use Rattle.pv_eval.specs.Steps.{is_minus}
 use Rattle.pv_eval.specs.declared.plain.Found.{Found}
 use Rattle.pv_eval.specs.declared.plain.Spot.{Spot}
 use Rattle.pv_eval.specs.Plainly.{setting_by, has_read, GivesAt, GivesWithBoth, HasMoved, found_worth, pointer_at}
-use Rattle.pv_eval.proofs.Guards.{both_of}
+use Rattle.pv_world.proofs.Guards.{both_of}
 use Rattle.pv_eval.proofs.Through.{right_false}
 use Rattle.pv_eval.proofs.PlainReads.{used, live_known}
 use Rattle.pv_eval.proofs.PlainNumbers.{act_gives}

@@ -38,12 +38,12 @@ use Rattle.pv_world.specs.Accesses.{reaching_by, scalar_by, worth_in}
 use Rattle.pv_world.specs.AccessParts.{range_use}
 use Rattle.pv_eval.specs.TypeForms.{Lvalue, lvalue, shape_of}
 use Rattle.pv_eval.specs.Sizes.{setting_of}
-use Rattle.pv_eval.specs.Suiting.{knows}
+use Rattle.pv_world.specs.Suiting.{knows}
 use Rattle.pv_eval.specs.Permission.{permits}
 use Rattle.pv_eval.specs.Accesses.{access_to, reads_permitted, reads_at, reads}
 use Rattle.pv_eval.specs.declared.plain.Found.{Found}
 use Rattle.pv_eval.specs.Plainly.{setting_by, ReadsFrom, alone_tried, HasReached, IsLooked, found_worth}
-use Rattle.pv_eval.proofs.Guards.{both_of}
+use Rattle.pv_world.proofs.Guards.{both_of}
 use Rattle.pv_eval.proofs.Through.{fits_lvalue}
 use Rattle.pv_eval.proofs.PlainReads.{told_live, live_known, no_clash}
 

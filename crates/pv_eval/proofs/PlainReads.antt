@@ -52,7 +52,7 @@ use Rattle.pv_world.specs.AccessParts.{range_use}
 use Rattle.pv_eval.specs.States.{then_do}
 use Rattle.pv_eval.specs.TypeForms.{Lvalue, lvalue, shape_of}
 use Rattle.pv_eval.specs.Sizes.{setting_of, size_in}
-use Rattle.pv_eval.specs.Suiting.{knows}
+use Rattle.pv_world.specs.Suiting.{knows}
 use Rattle.pv_eval.specs.Permission.{permits}
 use Rattle.pv_eval.specs.Accesses.{access_to, reads_permitted, reads_at, reads}
 use Rattle.pv_eval.specs.Operations.{Reads}
@@ -60,7 +60,7 @@ use Rattle.pv_eval.specs.Sequenced.{done}
 use Rattle.pv_eval.specs.declared.plain.Found.{Found}
 use Rattle.pv_eval.specs.Plainly.{setting_by, AreReads, has_read, GivesReading, GivesNoting, ReadsFrom, alone_tried, HasReached, IsPlainNumber, found_worth}
 use Rattle.pv_inst.proofs.Rows.{row_found}
-use Rattle.pv_eval.proofs.Guards.{both_of}
+use Rattle.pv_world.proofs.Guards.{both_of}
 use Rattle.pv_eval.proofs.Through.{fits_lvalue, right_false}
 use Rattle.pv_eval.proofs.PlainSteps.{reads_both}
 use Rattle.pv_eval.proofs.PlainNumbers.{act_gives, member_kept}

@@ -30,7 +30,7 @@ use Rattle.pv_eval.specs.States.{Setting, State, Res, Gives, then_do}
 use Rattle.pv_eval.specs.Acting.{noted as told_of, pair_count, by_side, answered, acted}
 use Rattle.pv_eval.specs.TypeForms.{Lvalue, lvalue}
 use Rattle.pv_eval.specs.Sizes.{setting_of}
-use Rattle.pv_eval.specs.Suiting.{is_stored, knows_worth}
+use Rattle.pv_world.specs.Suiting.{is_stored, knows_worth}
 use Rattle.pv_eval.specs.Permission.{permits}
 use Rattle.pv_eval.specs.Accesses.{access_to, writes_permitted, writes_at, writes_to, writes}
 use Rattle.pv_eval.specs.Operations.{Op, Writes, does, act}
@@ -40,7 +40,7 @@ use Rattle.pv_eval.specs.Evaluation.{ev}
 use Rattle.pv_eval.specs.Frames.{first_after, second_after}
 use Rattle.pv_eval.specs.Plainly.{setting_by, turned, AreReads, has_read, Yields, form_by, GivesValue, whole_turns, Performs, WritesTo, StoresAt, IsConverted, HasReached, found_worth}
 use Rattle.pv_eval.proofs.Cases.{begins, goes-on}
-use Rattle.pv_eval.proofs.Guards.{both_of}
+use Rattle.pv_world.proofs.Guards.{both_of}
 use Rattle.pv_eval.proofs.Through.{fits_lvalue}
 use Rattle.pv_eval.proofs.PlainSteps.{node_begun, node_stops, operand_stops}
 use Rattle.pv_eval.proofs.PlainNumbers.{not_less}

@@ -25,7 +25,7 @@ use Rattle.pv_world.specs.Preconditions.{HasSizeOf}
 use Rattle.pv_world.specs.Objects.{instance_of, puts_bytes}
 use Rattle.pv_eval.specs.TypeForms.{Lvalue, lvalue, shape_of}
 use Rattle.pv_eval.specs.Sizes.{setting_of, size_in, number_in}
-use Rattle.pv_eval.specs.Suiting.{is_size, has_room}
+use Rattle.pv_world.specs.Suiting.{is_size, has_room}
 use Rattle.pv_eval.specs.Objects.{where_possible, text_for}
 use Rattle.pv_eval.specs.Stores.{can_store, stores, stores_bytes}
 use Rattle.pv_eval.specs.Operations.{Puts, PutsText, does}

@@ -32,13 +32,12 @@ use Rattle.pv_world.specs.Doing.{Done, Fails}
 use Rattle.pv_world.specs.Coming.{Came, Did, Faulted, Gave, Ended, seen, worth_of}
 use Rattle.pv_eval.specs.States.{Setting}
 use Rattle.pv_eval.specs.Frames.{asked_with}
-use Rattle.pv_eval.specs.SuitingParts.{knows_arguments}
 use Rattle.pv_eval.specs.Library.{noted_as, blame_in, with_memory, asked, asks}
-use Rattle.pv_eval.specs.LibraryParts.{all_noted}
+use Rattle.pv_eval.specs.LibraryParts.{all_noted, knows_arguments}
 use Rattle.pv_eval.specs.Moments.{come_to}
 use Rattle.pv_eval.specs.Operations.{Asks, does}
 use Rattle.pv_eval.specs.Texts.{text_in, silent, UnlessNoMemory, Wrote}
-use Rattle.pv_eval.proofs.Chosen.{failed}
+use Rattle.pv_world.proofs.Guards.{failed}
 
 -- what happened, one note after the other
 pub next_noted : (T : Table) (told more : List What) (notes : List Note) (i : ℕ) (d : Note) → i < length notes → more ≡ told ++ noted_as T (get_or notes i d)

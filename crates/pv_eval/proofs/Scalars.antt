@@ -11,9 +11,9 @@ use Rattle.pv_types.specs.Layouts.{Entry, up_to, is_complete_in, layout_in}
 use Rattle.pv_world.specs.declared.got.Shape.TheVariants as shape
 use Rattle.pv_eval.specs.declared.types.Complete.{Complete}
 use Rattle.pv_eval.specs.TypeForms.{alignment_by, shape_of}
-use Rattle.pv_eval.specs.Suiting.{is_size}
+use Rattle.pv_world.specs.Suiting.{is_size}
 use Rattle.pv_eval.specs.Sizes.{size_in, IsComplete, points}
-use Rattle.pv_eval.proofs.Guards.{both_of}
+use Rattle.pv_world.proofs.Guards.{both_of}
 
 pub integer_complete : (m : Known) (t : TypeId) (k : IntKind) (n : ℕ) → t.0 < length m.terms → tree m t.0 ≡ IntTy k → n ≡ width k / 8 → 1 ≤ n → n ≤ 8 → IsComplete m (record { t = t; size = n })
 integer_complete m t k n known e sized some few =

@@ -16,7 +16,7 @@ use Rattle.pv_eval.specs.States.{Setting}
 use Rattle.pv_eval.specs.TypeForms.{Lvalue, size_of}
 use Rattle.pv_eval.specs.Acting.{pair_count}
 use Rattle.pv_eval.specs.Objects.{where_possible, instance_for, can_fill, can_put, can_put_text, text_for}
-use Rattle.pv_eval.specs.Suiting.{is_live}
+use Rattle.pv_world.specs.Suiting.{is_live}
 use Rattle.pv_eval.specs.Operations.{Op, Ends, Fills, Puts, PutsText, does}
 
 -- the pairs of the world that a doing leaves

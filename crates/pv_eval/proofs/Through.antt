@@ -24,12 +24,12 @@ use Rattle.pv_world.specs.Preconditions.{IsStored}
 use Rattle.pv_eval.specs.declared.failure.Failure.{Failure}
 use Rattle.pv_eval.specs.declared.types.Complete.{Complete}
 use Rattle.pv_eval.specs.States.{Setting}
-use Rattle.pv_eval.specs.Suiting.{is_size}
+use Rattle.pv_world.specs.Suiting.{is_size}
 use Rattle.pv_eval.specs.TypeForms.{lvalue, size_of}
 use Rattle.pv_eval.specs.Sizes.{setting_of, size_in, IsComplete}
 use Rattle.pv_eval.specs.Accesses.{access_to}
 use Rattle.pv_eval.specs.Moments.{Moment, IsSetting, Noted}
-use Rattle.pv_eval.proofs.Guards.{both_of}
+use Rattle.pv_world.proofs.Guards.{both_of}
 
 -- the guard of an lvalue's type
 abbrev pub fits_lvalue : Stored → Ty → Bool

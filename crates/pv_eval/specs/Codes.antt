@@ -27,7 +27,7 @@ use Rattle.pv_eval.specs.declared.codes.Code.TheVariants as code
 use Rattle.pv_eval.specs.TypeForms.{shape_of, kind_of}
 use Rattle.pv_types.specs.Sorts.{is_pointer}
 use Rattle.pv_eval.specs.Sizes.{element_in, points}
-use Rattle.pv_eval.specs.Suiting.{is_small}
+use Rattle.pv_world.specs.Suiting.{is_small}
 use Rattle.pv_eval.specs.declared.plain.Found.{Found}
 use Rattle.pv_eval.specs.Operations.{Calculates, Selects}
 use Rattle.pv_eval.specs.Ahead.{first_operand_of}

@@ -4,8 +4,6 @@ pub mod Conversions
 pub mod Sizes
 pub mod Acting
 pub mod ActingParts
-pub mod Suiting
-pub mod SuitingParts
 pub mod Permission
 pub mod PermissionParts
 pub mod Accesses

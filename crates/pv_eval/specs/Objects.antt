@@ -15,7 +15,7 @@ use Rattle.pv_world.specs.Accesses.{stored_as}
 use Rattle.pv_world.specs.Objects as object
 use Rattle.pv_eval.specs.States.{Setting}
 use Rattle.pv_eval.specs.TypeForms.{Lvalue, size_of, align_of, is_constant}
-use Rattle.pv_eval.specs.Suiting.{is_size, is_stored, knows_worth, is_live, has_room}
+use Rattle.pv_world.specs.Suiting.{is_size, is_stored, knows_worth, is_live, has_room}
 
 -- what is done to an object (6.2.4, 6.7.9) is nothing where it can't be done, which never comes in a checked unit
 abbrev pub where_possible : Bool → World → Done → Done

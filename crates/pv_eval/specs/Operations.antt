@@ -1,10 +1,9 @@
 -- The operations of a run (C17 6.3, 6.5, 6.7.9, 7), and what each does.
-use Rattle.std.specs.Prelude.{ℕ, nat_le, Bool, true, ◌&&◌, List, ◌∷◌, Option, None, drop, if◌then◌else◌}
+use Rattle.std.specs.Prelude.{ℕ, nat_le, Bool, true, ◌&&◌, List, ◌∷◌, Option, drop}
 use Rattle.std.specs.FinMap as map
 use Rattle.pv_num.specs.declared.kinds.IntKind.{IntKind}
 use Rattle.pv_num.specs.declared.operators.BinOp.{BinOp}
 use Rattle.pv_num.specs.declared.operators.UnOp.{UnOp}
-use Rattle.pv_num.specs.Kinds.{fits_of}
 use Rattle.pv_num.specs.Arithmetic.{binary_of, unary_of}
 use Rattle.pv_types.specs.Layouts.{is_complete_in}
 use Rattle.pv_typed.specs.TypedUnits.{layouts}
@@ -13,9 +12,9 @@ use Rattle.pv_seq.specs.Sequencing.{Access}
 use Rattle.pv_libc.specs.declared.values.Arg.{Arg}
 use Rattle.pv_world.specs.declared.got.How.{How}
 use Rattle.pv_world.specs.Worlds.{Worth, Nothing, World}
-use Rattle.pv_world.specs.Worths.{truth_int, int_of, pointer, plain, present, computed, missing_value, pointer_of}
+use Rattle.pv_world.specs.Worths.{truth_int, int_of, pointer, plain, present, computed, pointer_of}
 use Rattle.pv_world.specs.Telling.{quiet}
-use Rattle.pv_world.specs.Doing.{Done, Answers, Fails}
+use Rattle.pv_world.specs.Doing.{Done, Answers}
 use Rattle.pv_world.specs.Conversions.{converts, opposite, tests}
 use Rattle.pv_world.specs.Calculations.{follows_to}
 use Rattle.pv_world.specs.Pointers.{moves, subtracts, orders, equals, is_order, moved_by, finds}
@@ -28,7 +27,7 @@ use Rattle.pv_eval.specs.Objects.{makes, ends, makes_literal, makes_function, fi
 use Rattle.pv_eval.specs.Callees.{may_call}
 use Rattle.pv_types.specs.Ty.{Ty}
 use Rattle.pv_eval.specs.Library.{asks}
-use Rattle.pv_eval.specs.Suiting.{knows_worth, is_small, is_integer, is_promoted, is_operand, is_size, is_stored, has_part, knows_value}
+use Rattle.pv_world.specs.Suiting.{where_suiting, knows_value, knows_worth, knows_both, is_convertible, can_shift, is_integer, is_of_promoted, are_operands, is_size, is_stored, has_part}
 use Rattle.std.specs.List.{list_all}
 use Rattle.pv_world.specs.Accesses.{takes_bytes}
 use Rattle.pv_object.specs.Operations.{select}
@@ -76,22 +75,22 @@ pub data Op : Type 0 where
 
 -- 6.3, 6.5, 6.7.9: what typing promises of the operands of an operation: an operand of another kind comes from no checked unit
 abbrev pub suits : Setting → Op → World → Bool
-suits b (Converts how v) w = is_small v && knows_worth w.memory.table v
-suits b (Calculates op k v x) w = (is_promoted k && fits_of k (int_of v)) && is_operand op k (int_of x)
-suits b (CalculatesOne op k v) w = is_promoted k && fits_of k (int_of v)
+suits b (Converts how v) w = is_convertible w.memory.table v
+suits b (Calculates op k v x) w = are_operands op k v x
+suits b (CalculatesOne op k v) w = is_of_promoted k v
 suits b (Tests v) w = knows_worth w.memory.table v
 suits b (Negates v) w = knows_worth w.memory.table v
 suits b (Needs v) w = is_integer v
-suits b (Moves minus first size v x) w = is_size size && ((is_small v && is_small x) && (knows_worth w.memory.table v && knows_worth w.memory.table x))
-suits b (Subtracts size v x) w = is_size size && (nat_le 1 size && (knows_worth w.memory.table v && knows_worth w.memory.table x))
-suits b (Orders op v x) w = is_order op && (knows_worth w.memory.table v && knows_worth w.memory.table x)
-suits b (Equals negated v x) w = knows_worth w.memory.table v && knows_worth w.memory.table x
+suits b (Moves minus first size v x) w = is_size size && can_shift w.memory.table v x
+suits b (Subtracts size v x) w = is_size size && (nat_le 1 size && knows_both w.memory.table v x)
+suits b (Orders op v x) w = is_order op && knows_both w.memory.table v x
+suits b (Equals negated v x) w = knows_both w.memory.table v x
 suits b (Selects offset v) w = knows_worth w.memory.table v
 suits b (Finds t v) w = knows_worth w.memory.table v
 suits b (TakesPart offset l v) w = is_size l.size && (has_part v offset l.size && knows_worth w.memory.table v)
 suits b (Reads l place rivals) w = (is_complete_in (layouts b.unit) l.t && (nat_le 1 l.size && is_size l.size)) && knows_worth w.memory.table place
 suits b (Writes l place v from rivals) w =
-    (is_complete_in (layouts b.unit) l.t && (nat_le 1 l.size && is_size l.size)) && (is_stored l.shape l.size v && (knows_worth w.memory.table place && knows_worth w.memory.table v))
+    (is_complete_in (layouts b.unit) l.t && (nat_le 1 l.size && is_size l.size)) && (is_stored l.shape l.size v && knows_both w.memory.table place v)
 suits b (Asks f args) w = list_all (λ (x : Arg). knows_value w.memory.table x.value) args
 -- the others take every value
 suits b _ w = true
@@ -131,7 +130,7 @@ works b (Asks f args) = asks f args
 
 -- 6.9.1p12: on a value that isn't of its expression's type it ends the run as on a value that is missing
 abbrev pub does : Setting → Op → World → Done
-does b op w = if suits b op w then works b op w else Fails missing_value None w quiet
+does b op w = where_suiting (suits b op w) (works b op) w
 
 -- what an operation does in the state of a run (5.1.2.3), for the node in this line
 abbrev pub act : Setting → (line : ℕ) → Op → State → Res Worth

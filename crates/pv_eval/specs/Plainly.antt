@@ -49,7 +49,7 @@ use Rattle.pv_world.specs.declared.got.How.TheVariants.{Rounds}
 use Rattle.pv_eval.specs.States.{Setting, State, Res, Gives, Stops, Turns, then_do}
 use Rattle.pv_eval.specs.TypeForms.{lvalue}
 use Rattle.pv_types.specs.Sorts.{is_scalar_in}
-use Rattle.pv_eval.specs.Suiting.{knows}
+use Rattle.pv_world.specs.Suiting.{knows}
 use Rattle.pv_eval.specs.Operations.{Op, Converts, Reads, Writes, does, act}
 use Rattle.pv_eval.specs.Sequenced.{Given, done}
 use Rattle.pv_eval.specs.Steps.{Calling, takes, converted, handed, combining, stepping}

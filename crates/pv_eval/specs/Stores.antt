@@ -6,7 +6,7 @@ use Rattle.pv_world.specs.Worlds.{Worth, World}
 use Rattle.pv_world.specs.Doing.{Done}
 use Rattle.pv_world.specs.Accesses.{stored_as}
 use Rattle.pv_world.specs.Objects.{instance_of, fills_object, puts_bytes}
-use Rattle.pv_eval.specs.Suiting.{is_stored, knows_worth, has_room}
+use Rattle.pv_world.specs.Suiting.{is_stored, knows_worth, has_room}
 use Rattle.pv_eval.specs.Objects.{where_possible}
 
 -- 6.7.9p10, p19, p21: every one of so many bytes becomes this one, where the object has them

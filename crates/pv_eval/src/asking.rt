@@ -21,7 +21,7 @@ ghost use Rattle.pv_eval.specs.Acting.{acted};
 ghost use Rattle.pv_eval.specs.Arguments.{argument_shape, shape_to};
 ghost use Rattle.pv_eval.specs.Frames.{asked_with};
 ghost use Rattle.pv_eval.specs.Library.{noted_as, blame_in, asks};
-ghost use Rattle.pv_eval.specs.LibraryParts.{all_noted};
+ghost use Rattle.pv_eval.specs.LibraryParts.{all_noted, knows_arguments};
 ghost use Rattle.pv_eval.specs.Moments.{come_to, Acted, Stays, Came, state_of};
 ghost use Rattle.pv_eval.specs.Texts.{Wrote, Closed, with_text};
 ghost use Rattle.pv_eval.specs.Runnable.{IsRunnable};
@@ -29,9 +29,7 @@ ghost use Rattle.pv_eval.specs.Operations.{Asks, does};
 ghost use Rattle.pv_eval.specs.declared.marked.Marked.{Marked as Event};
 
 use crate::failure::Failure;
-use crate::guarded::unfit;
 use crate::moment::Moment;
-use crate::suiting::knows_arguments;
 use crate::types::layer;
 use pv_libc::{Arg, Note, Reply, Shape, call};
 use pv_library::Library;
@@ -44,7 +42,7 @@ use pv_typed::TypedUnit;
 use pv_types::{Term, TypeId, Types};
 use pv_watch::What;
 use pv_world::{
-    Blame, Cause, Failure as WorldFailure, Got, World, stopped, tell, tell_made, tell_used,
+    Blame, Cause, Failure as WorldFailure, Got, World, stopped, tell, tell_made, tell_used, unfit,
 };
 use std::alloc::Global;
 
@@ -247,6 +245,20 @@ fn ask_known(
         return Err(WorldFailure::NoMemory);
     };
     replied(told, reply, blame_in(&notes))
+}
+
+/// Whether what the names in arguments speak of was made.
+#[tactic(auto, using(crate::proofs::Asked::arguments_made))]
+fn knows_arguments(world: &World, args: &[Arg]) -> bool
+    ensures value { result ≡ knows_arguments world.now.memory.table args.now }
+    ensures made { result ≡ true → All (λ a. IsMadeValue world.now.memory.table a.value) args.now }
+{
+    for i in 0..args.len() {
+        if !world.knows_value(args[i].value) {
+            return false;
+        }
+    }
+    true
 }
 
 /// The same of arguments whose names may be others than those that were made.

@@ -10,13 +10,11 @@ ghost use Rattle.pv_eval.specs.Sizes.{setting_of};
 ghost use Rattle.pv_eval.specs.TypeForms.{pointed_to};
 ghost use Rattle.pv_eval.specs.Operations.{Finds, does};
 
-use crate::guarded::unfit;
-use crate::suiting::knows;
 use crate::types::pointee;
 use pv_typed::TypedUnit;
 use pv_types::{Term, TypeId};
 use pv_watch::What;
-use pv_world::{Failure as WorldFailure, Got, World, fail, pointer_of, unlike};
+use pv_world::{Failure as WorldFailure, Got, World, fail, pointer_of, unfit, unlike};
 
 /// Whether it is a function type.
 #[tactic(auto, using(crate::proofs::Numbers::outside))]
@@ -65,7 +63,7 @@ pub(crate) fn find(
     ensures did { Did by_number (does (setting_of unit.now) (Finds (pointed_to (tree unit.now.known t.0)) (worth_of v.now))) result world.old world.new told.old.items told.new.items }
     ensures known { IfOk result (λ f. f < length unit.now.functions) }
 {
-    if !knows(world, v) {
+    if !world.knows(v) {
         return Err(unfit(told));
     }
     let blame = world.blame(pointer_of(v));

@@ -15,7 +15,6 @@ mod dividing;
 mod failure;
 mod first_values;
 mod frames;
-mod guarded;
 mod later_values;
 mod lending;
 mod library;
@@ -45,9 +44,9 @@ mod reading;
 mod running;
 mod second_values;
 mod siding;
+mod sized;
 mod started;
 mod starting;
-mod suiting;
 mod types;
 mod values;
 

@@ -16,7 +16,6 @@ ghost use Rattle.pv_eval.specs.Stores.{fills_sized, stores, stores_bytes};
 ghost use Rattle.pv_eval.specs.Runnable.{IsRunnable};
 ghost use Rattle.pv_eval.specs.Operations.{Makes, MakesLiteral, MakesFunction, Ends, Fills, Puts, PutsText, does};
 
-use crate::suiting::{can_put, has_room, is_live};
 use crate::types::{align_of, is_constant, measured, number, shape, size_of};
 use pv_inst::CreateError;
 use pv_object::Scalar;
@@ -157,7 +156,7 @@ pub(crate) fn finish(
 {
     let lasting = unit.object(o).lasting;
     let i = world.instance(o, lasting);
-    if is_live(world, i) {
+    if world.is_live(i) {
         world.end(o, lasting, told)
     } else {
         Ok(())
@@ -175,7 +174,7 @@ fn fill_sized(
     ensures { (told : List Told) → Did no_worth (fills_sized o lasting size value) result world.old world.new told told }
 {
     let i = world.instance(o, lasting);
-    if has_room(world, i, 0, size) {
+    if world.has_room(i, 0, size) {
         world.fill(o, lasting, size, value)
     } else {
         Ok(())
@@ -245,7 +244,7 @@ fn put_sized(
     ensures { (told : List Told) → Did no_worth (stores o lasting offset size number shape (worth_of v.now)) (Ok tt) world.old world.new told told }
 {
     let i = world.instance(o, lasting);
-    if can_put(world, shape, size, v, i, offset) {
+    if world.can_put(shape, size, v, i, offset) {
         put_stored(world, o, lasting, offset, size, number, shape, v);
     }
 }
@@ -282,7 +281,7 @@ fn put_characters(world: &mut World, o: u32, lasting: bool, offset: u64, bytes: 
     ensures { (told : List Told) → Did no_worth (stores_bytes o lasting offset bytes.now) (Ok tt) world.old world.new told told }
 {
     let i = world.instance(o, lasting);
-    if has_room(world, i, offset, bytes.len() as u64) {
+    if world.has_room(i, offset, bytes.len() as u64) {
         world.put_bytes(o, lasting, offset, bytes);
     }
 }

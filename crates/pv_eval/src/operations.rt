@@ -13,10 +13,11 @@ ghost use Rattle.pv_eval.specs.Runnable.{IsRunnable};
 ghost use Rattle.pv_eval.specs.Operations.{NamesFunction, Finds, Converts, Calculates, CalculatesOne, Tests, Negates, Moves, Subtracts, Orders, Equals, Follows, Selects, Accepts, Needs, TakesPart, NamesObject, NamesLiteral, act};
 ghost use Rattle.pv_eval.specs.Moments.{Acted, Tested, Needed, Called, Always, Stays, state_of};
 
+use crate::callees;
 use crate::failure::Failure;
 use crate::moment::Moment;
-use crate::types::{element_size, how, is_none, kind, pointee, shape, size_of};
-use crate::{callees, guarded};
+use crate::sized::{part_of, shift_by, subtract_by};
+use crate::types::{how, is_none, kind, pointee};
 use pv_num::{BinOp, IntKind, UnOp};
 use pv_object::Value;
 use pv_tree::NodeId;
@@ -71,7 +72,7 @@ impl Moment {
         let how = how(unit.types(), implied, from, to);
         let before = self.world.pairs_made();
         let mut told = Vec::new(self.alloc);
-        let answer = guarded::convert(&mut self.world, how, v, &mut told);
+        let answer = self.world.convert(how, v, &mut told);
         self.close(line, before, &told, answer)
     }
 
@@ -89,7 +90,7 @@ impl Moment {
     {
         let before = self.world.pairs_made();
         let mut told = Vec::new(self.alloc);
-        let answer = guarded::convert(&mut self.world, How::Rounds(kind), v, &mut told);
+        let answer = self.world.convert(How::Rounds(kind), v, &mut told);
         self.close(line, before, &told, answer)
     }
 
@@ -110,7 +111,7 @@ impl Moment {
     {
         let before = self.world.pairs_made();
         let mut told = Vec::new(self.alloc);
-        let answer = guarded::calculate(op, kind, &v, &w, &mut told);
+        let answer = pv_world::calculate(op, kind, &v, &w, &mut told);
         self.close(line, before, &told, answer)
     }
 
@@ -129,7 +130,7 @@ impl Moment {
     {
         let before = self.world.pairs_made();
         let mut told = Vec::new(self.alloc);
-        let answer = guarded::calculate_one(op, kind, &v, &mut told);
+        let answer = pv_world::calculate_one(op, kind, &v, &mut told);
         self.close(line, before, &told, answer)
     }
 
@@ -142,7 +143,7 @@ impl Moment {
     {
         let before = self.world.pairs_made();
         let mut told = Vec::new(self.alloc);
-        let answer = guarded::test(&mut self.world, &v, &mut told);
+        let answer = self.world.test(&v, &mut told);
         self.close_test(line, before, &told, answer)
     }
 
@@ -154,7 +155,7 @@ impl Moment {
     {
         let before = self.world.pairs_made();
         let mut told = Vec::new(self.alloc);
-        let answer = guarded::negate(&mut self.world, &v, &mut told);
+        let answer = self.world.negate(&v, &mut told);
         self.close(line, before, &told, answer)
     }
 
@@ -166,7 +167,7 @@ impl Moment {
     {
         let before = self.world.pairs_made();
         let mut told = Vec::new(self.alloc);
-        let answer = guarded::accept(v, &mut told);
+        let answer = pv_world::accept(v, &mut told);
         self.close(line, before, &told, answer)
     }
 
@@ -184,7 +185,7 @@ impl Moment {
     {
         let before = self.world.pairs_made();
         let mut told = Vec::new(self.alloc);
-        let answer = guarded::follow(nothing, v, &mut told);
+        let answer = pv_world::follow(nothing, v, &mut told);
         self.close(line, before, &told, answer)
     }
 
@@ -202,7 +203,7 @@ impl Moment {
     {
         let before = self.world.pairs_made();
         let mut told = Vec::new(self.alloc);
-        let answer = guarded::select(&mut self.world, offset, &v, &mut told);
+        let answer = self.world.select(offset, &v, &mut told);
         self.close(line, before, &told, answer)
     }
 
@@ -221,7 +222,7 @@ impl Moment {
     {
         let before = self.world.pairs_made();
         let mut told = Vec::new(self.alloc);
-        let answer = guarded::equal(&mut self.world, negated, &v, &w, &mut told);
+        let answer = self.world.equal(negated, &v, &w, &mut told);
         self.close(line, before, &told, answer)
     }
 
@@ -240,7 +241,7 @@ impl Moment {
     {
         let before = self.world.pairs_made();
         let mut told = Vec::new(self.alloc);
-        let answer = guarded::order(&mut self.world, op, &v, &w, &mut told);
+        let answer = self.world.order(op, &v, &w, &mut told);
         self.close(line, before, &told, answer)
     }
 
@@ -265,7 +266,7 @@ impl Moment {
         let mut told = Vec::new(self.alloc);
         let types = unit.types();
         let world = &mut self.world;
-        let answer = guarded::shift_by(world, types, minus, pointer_first, t, &v, &w, &mut told);
+        let answer = shift_by(world, types, minus, pointer_first, t, &v, &w, &mut told);
         self.close(line, before, &told, answer)
     }
 
@@ -286,7 +287,7 @@ impl Moment {
         let before = self.world.pairs_made();
         let mut told = Vec::new(self.alloc);
         let types = unit.types();
-        let answer = guarded::subtract_by(&mut self.world, types, t, &v, &w, &mut told);
+        let answer = subtract_by(&mut self.world, types, t, &v, &w, &mut told);
         self.close(line, before, &told, answer)
     }
 
@@ -307,7 +308,7 @@ impl Moment {
         let before = self.world.pairs_made();
         let mut told = Vec::new(self.alloc);
         let types = unit.types();
-        let answer = guarded::part_of(&mut self.world, types, t, offset, &v, &mut told);
+        let answer = part_of(&mut self.world, types, t, offset, &v, &mut told);
         self.close(line, before, &told, answer)
     }
 
@@ -318,7 +319,7 @@ impl Moment {
     {
         let before = self.world.pairs_made();
         let mut told = Vec::new(self.alloc);
-        let answer = guarded::need(v, &mut told);
+        let answer = pv_world::need(v, &mut told);
         self.close_number(line, before, &told, answer)
     }
 

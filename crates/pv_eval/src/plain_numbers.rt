@@ -11,19 +11,18 @@ ghost use Rattle.pv_world.specs.Worlds.{World as WorldView};
 ghost use Rattle.pv_world.specs.Worths.{int};
 ghost use Rattle.pv_world.specs.declared.got.How.TheVariants.{Rounds};
 ghost use Rattle.pv_eval.specs.Conversions.{how_to};
-ghost use Rattle.pv_eval.specs.Suiting.{is_small};
+ghost use Rattle.pv_world.specs.Suiting.{is_small};
 ghost use Rattle.pv_eval.specs.Operations.{Calculates, CalculatesOne, Converts};
 ghost use Rattle.pv_eval.specs.Plainly.{IsConverted, AlwaysGives, GivesWith, GivesWithBoth, found_worth};
 
 use crate::plain::Found;
 use crate::plain_comparisons::is_zero;
-use crate::suiting::{is_operand, is_promoted};
 use crate::types::{kind, shape};
 use pv_num::{BinOp, IntKind, UnOp, binary, convert, fits};
 use pv_tree::NodeId;
 use pv_typed::{Typed, TypedUnit};
 use pv_types::TypeId;
-use pv_world::Shape;
+use pv_world::{Shape, is_operand, is_promoted};
 
 /// The number, where it has 64 bits with a sign.
 pub(crate) fn small(k: i128) -> Option<i64>

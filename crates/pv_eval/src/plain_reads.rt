@@ -17,7 +17,7 @@ ghost use Rattle.pv_world.specs.Worths.{int, pointer, pointer_of};
 ghost use Rattle.pv_world.specs.declared.got.Shape.{Shape as Form};
 ghost use Rattle.pv_eval.specs.TypeForms.{shape_of};
 ghost use Rattle.pv_eval.specs.Sizes.{IsComplete};
-ghost use Rattle.pv_eval.specs.Suiting.{knows};
+ghost use Rattle.pv_world.specs.Suiting.{knows};
 ghost use Rattle.pv_eval.specs.Codes.{IsIntegerPlace};
 ghost use Rattle.pv_eval.specs.Designated.{IsDesignated};
 ghost use Rattle.pv_eval.specs.Plainly.{ReadsFrom, HasReached, IsLooked, IsPlainNumber, HasKind, alone_tried, found_worth, pointer_at};

@@ -25,7 +25,6 @@ use crate::plain_coded::{rounded, value};
 use crate::plain_conversions::converted_value;
 use crate::plain_reads::reached;
 use crate::plan::Plan;
-use crate::suiting::can_write;
 use crate::types::{AccessedType, accessed, accessed_integer, accessed_pointer, number};
 use pv_object::{Pointer, Value};
 use pv_prov::Prov;
@@ -72,7 +71,7 @@ fn store(
 {
     let place = got(Found::Place(p));
     let stored = got(v);
-    if !can_write(world, x.form, x.l.size, &place, &stored) {
+    if !world.can_write(x.form, x.l.size, &place, &stored) {
         return false;
     }
     let Some(target) = reached(world, p, x.l.size, x.align, true) else {

@@ -17,16 +17,14 @@ ghost use Rattle.pv_eval.specs.Moments.{Acted, Stays, Noted};
 
 use crate::accesses::{read_from, write_to};
 use crate::failure::Failure;
-use crate::guarded::unfit;
 use crate::moment::Moment;
-use crate::suiting::{can_write, knows};
 use crate::types::{Complete, measured, shape};
 use pv_seq::Journal;
 use pv_tree::NodeId;
 use pv_typed::TypedUnit;
 use pv_types::TypeId;
 use pv_watch::What;
-use pv_world::{Failure as WorldFailure, Got, World, pointer_of};
+use pv_world::{Failure as WorldFailure, Got, World, pointer_of, unfit};
 use std::alloc::Global;
 
 /// A read through a complete type, of a place whose name was made.
@@ -45,7 +43,7 @@ fn read_known(
     ensures did { Did worth_of (does (setting_of unit.now) (Reads (lvalue_in unit.now l.t) (worth_of place.now) (rivals (top journal.old)))) result world.old world.new told.old.items told.new.items }
     ensures noted { OnOk result (journal.new ≡ noted (access_to (lvalue_in unit.now l.t) (pointer_of (worth_of place.now)) false) (top journal.old) ∷ below journal.old) }
 {
-    if knows(world, place) {
+    if world.knows(place) {
         read_from(alloc, unit, l, pointer_of(place), journal, world, told)
     } else {
         Err(unfit(told))
@@ -91,7 +89,7 @@ fn write_known(
     ensures did { Did worth_of (does (setting_of unit.now) (Writes (lvalue_in unit.now l.t) (worth_of place.now) (worth_of v) from (rivals (top journal.old)))) result world.old world.new told.old.items told.new.items }
     ensures noted { OnOk result (journal.new ≡ noted (access_to (lvalue_in unit.now l.t) (pointer_of (worth_of place.now)) true) (top journal.old) ∷ below journal.old) }
 {
-    if can_write(world, shape(unit.types(), l.t), l.size, place, &v) {
+    if world.can_write(shape(unit.types(), l.t), l.size, place, &v) {
         write_to(
             alloc,
             unit,

@@ -8,7 +8,7 @@ ghost use Rattle.pv_types.specs.Sorts.{is_character, is_void, is_pointer};
 ghost use Rattle.pv_world.specs.Hows.{IsHow};
 ghost use Rattle.pv_eval.specs.TypeForms.{alignment_by, shape_of, kind_of, is_constant, pointed_to};
 ghost use Rattle.pv_eval.specs.Conversions.{how_to_int};
-ghost use Rattle.pv_eval.specs.Suiting.{is_size};
+ghost use Rattle.pv_world.specs.Suiting.{is_size};
 ghost use Rattle.pv_eval.specs.Sizes.{size_in, number_in, alignment_in, how_in, element_in, IsComplete, points};
 
 use pv_layout::{bare, measure};

@@ -16,7 +16,7 @@ use Rattle.pv_eval.specs.Acting.{acted, answered, by_side, sided, pair_count, no
 use Rattle.pv_eval.specs.ActingParts.{one_kept, keeps_both}
 use Rattle.pv_eval.specs.Operations.{Op, Converts, Calculates, CalculatesOne, Tests, Negates, Accepts, Needs, Moves, Subtracts, Orders, Equals, Follows, Selects, Finds, TakesPart, Reads, Writes, NamesObject, NamesLiteral, NamesFunction, Makes, MakesLiteral, MakesFunction, Ends, BeginsBody, EndsBody, Fills, Puts, PutsText, Asks, does, act}
 use Rattle.pv_eval.specs.Library.{asks}
-use Rattle.pv_eval.proofs.Guards.{left_of, right_of}
+use Rattle.pv_world.proofs.Guards.{left_of, right_of}
 use Rattle.pv_exec.proofs.Memory.Rows.{Leads as Led, led-itself, kept-led}
 use Rattle.pv_exec.proofs.Memory.Ways.{OfTables}
 use Rattle.pv_exec.proofs.Memory.Worlds.{Onward}

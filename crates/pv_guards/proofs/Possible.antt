@@ -13,8 +13,8 @@ use Rattle.pv_world.specs.Worlds.{Worth, World}
 use Rattle.pv_world.specs.Doing.{Done}
 use Rattle.pv_eval.specs.States.{Setting}
 use Rattle.pv_eval.specs.TypeForms.{lvalue, shape_of, size_of}
-use Rattle.pv_eval.specs.Suiting.{is_size, is_stored, knows_worth, is_live, has_room, live_in}
-use Rattle.pv_eval.specs.SuitingParts.{room_in}
+use Rattle.pv_world.specs.Suiting.{is_size, is_stored, knows_worth, is_live, has_room, live_in}
+use Rattle.pv_world.specs.SuitingParts.{room_in}
 use Rattle.pv_eval.specs.Objects.{where_possible, heap_name, has_extent, can_fill, can_put, can_put_text, text_for, instance_for, can_make}
 use Rattle.pv_eval.specs.ObjectParts.{can_place}
 use Rattle.pv_eval.specs.Operations.{Makes, MakesLiteral, MakesFunction, Ends, Fills, Puts, PutsText, does}

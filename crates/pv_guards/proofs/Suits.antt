@@ -30,8 +30,9 @@ use Rattle.pv_world.specs.Doing.{Done, Fails}
 use Rattle.pv_world.specs.Pointers.{is_order}
 use Rattle.pv_eval.specs.States.{Setting}
 use Rattle.pv_eval.specs.TypeForms.{Lvalue, lvalue, size_of}
-use Rattle.pv_eval.specs.Suiting.{knows, knows_value, knows_worth, is_size, is_small, is_operand, is_promoted, is_stored, has_part}
-use Rattle.pv_eval.specs.SuitingParts.{knows_bytes, knows_arguments}
+use Rattle.pv_world.specs.Suiting.{knows, knows_value, knows_worth, is_size, is_small, is_operand, is_promoted, is_stored, has_part}
+use Rattle.pv_world.specs.SuitingParts.{knows_bytes}
+use Rattle.pv_eval.specs.LibraryParts.{knows_arguments}
 use Rattle.pv_eval.specs.Operations.{Op, Converts, Calculates, CalculatesOne, Tests, Negates, Needs, Moves, Subtracts, Orders, Equals, Selects, TakesPart, Reads, Writes, Asks, Finds, suits, works, does}
 use Rattle.pv_guards.specs.Worths.{IsScalar, IsOfType, IsThere}
 use Rattle.pv_guards.specs.Typed.{IsSized, IsValueType, MayBeRight}

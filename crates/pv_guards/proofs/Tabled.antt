@@ -50,7 +50,7 @@ use Rattle.pv_world.specs.Accesses.{scalar_by, worth_in}
 use Rattle.pv_eval.specs.States.{Setting}
 use Rattle.pv_eval.specs.TypeForms.{shape_of}
 use Rattle.pv_eval.specs.Conversions.{how_to, how_to_int}
-use Rattle.pv_eval.proofs.Guards.{fits_is}
+use Rattle.pv_world.proofs.Guards.{fits_is}
 use Rattle.pv_guards.specs.Worths.{IsScalar}
 use Rattle.pv_guards.specs.Typed.{IsValueType, MayCast}
 use Rattle.pv_guards.specs.Fair.{IsFair, IsFairValue}

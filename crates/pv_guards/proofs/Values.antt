@@ -20,7 +20,7 @@ use Rattle.pv_object.specs.Values.{IsOf}
 use Rattle.pv_world.specs.Worlds.{Worth, Nothing, Missing, Scalar, Whole}
 use Rattle.pv_world.specs.Worths.{int_of}
 use Rattle.pv_eval.specs.TypeForms.{shape_of}
-use Rattle.pv_eval.specs.Suiting.{is_small, is_integer, is_promoted, is_operand, is_count, is_of, is_stored, has_part}
+use Rattle.pv_world.specs.Suiting.{is_small, is_integer, is_promoted, is_operand, is_count, is_of, is_stored, has_part}
 use Rattle.pv_guards.specs.Worths.{IsScalar, IsWhole, IsNothing, IsOfType, IsThere}
 use Rattle.pv_guards.specs.Typed.{IsValueType, MayBeRight}
 use Rattle.pv_guards.proofs.Numbers.{both, le_tested, fits_tested, within_all, zero_fits}

@@ -52,9 +52,10 @@ use Rattle.pv_eval.specs.ObjectParts.{can_place}
 use Rattle.pv_eval.specs.Callees.{may_call}
 use Rattle.pv_eval.specs.Library.{replied, with_memory, asked, asks, told_of}
 use Rattle.pv_eval.specs.LibraryParts.{all_noted}
-use Rattle.pv_eval.specs.Suiting.{is_size, is_live, knows_worth, is_stored, live_in}
+use Rattle.pv_world.specs.Suiting.{is_size, is_live, knows_worth, is_stored, live_in}
 use Rattle.pv_eval.specs.Operations.{Op, Converts, Calculates, CalculatesOne, Tests, Negates, Accepts, Needs, Moves, Subtracts, Orders, Equals, Follows, Selects, Finds, TakesPart, Reads, Writes, NamesObject, NamesLiteral, NamesFunction, Makes, MakesLiteral, MakesFunction, Ends, BeginsBody, EndsBody, Fills, Puts, PutsText, Asks, suits, works, does}
-use Rattle.pv_eval.proofs.Guards.{left_of, right_of, worth_made, arguments_made}
+use Rattle.pv_world.proofs.Guards.{left_of, right_of, worth_made}
+use Rattle.pv_eval.proofs.Asked.{arguments_made}
 use Rattle.pv_exec.proofs.Memory.Rows.{led-itself}
 use Rattle.pv_journal_laws.specs.Naming.{IsNamed, HasNames}
 use Rattle.pv_journal_laws.proofs.Telling.{IsNumbered}

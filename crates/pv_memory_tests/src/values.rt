@@ -1,12 +1,14 @@
 // Operations of a run on values.
 use crate::memory::{FIRST, SECOND};
 use crate::scripts::names;
-use crate::worlds::{known, touching};
+use crate::worlds::touching;
 use pv_num::{BinOp, IntKind, UnOp};
 use pv_object::{Pointer, Value};
 use pv_prov::Prov;
 use pv_watch::What;
-use pv_world::{Failure, Got, How, World, calculate, calculate_one, need, pointer_of, tell};
+use pv_world::{
+    Failure, Got, How, World, calculate, calculate_one, follow, need, pointer_of, tell,
+};
 use std::process::Abort;
 
 /// The number that an operation answers.
@@ -38,19 +40,17 @@ fn reckon(rt: &impl Abort, told: &mut Vec<What>) {
     assert!(rt; number(rt, sum) == 7);
     let less = calculate_one(UnOp::Minus, IntKind::Int, &Got::Scalar(four), told);
     assert!(rt; number(rt, less) == -4);
-    assert!(rt; number(rt, need(Got::Scalar(four), told)) == 4);
+    assert!(rt; matches!(need(Got::Scalar(four), told), Ok(4)));
 }
 
 /// A pointer as a number, which exposes its object.
 fn expose(rt: &impl Abort, world: &mut World, p: Pointer, told: &mut Vec<What>) -> i128 {
-    known(rt, world, p);
     let v = Got::Scalar(Value::Pointer(p));
     number(rt, world.convert(How::Numbers(IntKind::ULong), v, told))
 }
 
 /// A number as a pointer.
 fn find(rt: &impl Abort, world: &mut World, n: i128, told: &mut Vec<What>) -> Pointer {
-    assert!(rt; 0 <= n && n < 0x100000);
     pointer(
         rt,
         world.convert(How::Points, Got::Scalar(Value::Int(n)), told),
@@ -86,20 +86,16 @@ fn numbers_become_pointers(rt: HostRuntime) {
 /// A pointer moves within its object.
 fn move_within(rt: &impl Abort, world: &mut World, told: &mut Vec<What>) {
     let v = Got::Scalar(Value::Pointer(FIRST));
-    known(rt, world, FIRST);
     let moved = world.shift(false, true, 4, &v, &Got::Scalar(Value::Int(2)), told);
     assert!(rt; pointer(rt, moved).address == 0x20008);
-    known(rt, world, FIRST);
     assert!(rt; pointer(rt, world.select(4, &v, told)).address == 0x20004);
 }
 
 /// A pointer is looked at.
 fn look_at(rt: &impl Abort, world: &mut World, told: &mut Vec<What>) {
-    known(rt, world, FIRST);
     let is = world.test(&Got::Scalar(Value::Pointer(FIRST)), told);
     assert!(rt; matches!(is, Ok(true)));
-    known(rt, world, FIRST);
-    let place = world.follow(Got::Scalar(Value::Pointer(FIRST)), told);
+    let place = follow(false, Got::Scalar(Value::Pointer(FIRST)), told);
     assert!(rt; pointer(rt, place) == FIRST);
 }
 
@@ -110,11 +106,8 @@ fn compare(rt: &impl Abort, world: &mut World, told: &mut Vec<What>) {
         prov: Prov::Inst(1),
     });
     let (v, x) = (Got::Scalar(Value::Pointer(FIRST)), Got::Scalar(end));
-    known(rt, world, FIRST);
     assert!(rt; number(rt, world.order(BinOp::Lt, &v, &x, told)) == 1);
-    known(rt, world, FIRST);
     assert!(rt; number(rt, world.subtract(4, &x, &v, told)) == 2);
-    known(rt, world, FIRST);
     assert!(rt; number(rt, world.equal(false, &v, &x, told)) == 0);
 }
 

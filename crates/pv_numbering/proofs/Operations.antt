@@ -14,7 +14,7 @@ use Rattle.pv_world.specs.ObjectParts.{with_bytes}
 use Rattle.pv_eval.specs.States.{Setting}
 use Rattle.pv_eval.specs.TypeForms.{Lvalue}
 use Rattle.pv_eval.specs.Callees.{may_call}
-use Rattle.pv_eval.specs.Suiting.{is_size, is_promoted, is_operand}
+use Rattle.pv_world.specs.Suiting.{is_size, is_promoted, is_operand}
 use Rattle.pv_eval.specs.Operations.{Op, Converts, Calculates, CalculatesOne, Tests, Negates, Accepts, Needs, Moves, Subtracts, Orders, Equals, Follows, Selects, Finds, TakesPart, Reads, Writes, NamesObject, NamesLiteral, NamesFunction, MakesFunction, Makes, MakesLiteral, Ends, BeginsBody, EndsBody, Fills, Puts, PutsText, Asks, suits, works, does, act}
 use Rattle.pv_numbering.proofs.Alike.{with_types, AlikeWorth, AlikeLvalue, AlikeRes}
 use Rattle.pv_numbering.proofs.Acts.{ActAlike, ActsAlike}

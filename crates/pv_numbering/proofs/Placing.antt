@@ -13,7 +13,7 @@ use Rattle.pv_world.specs.ObjectParts.{with_bytes, names_literal, names_function
 use Rattle.pv_world.specs.Objects.{function_request}
 use Rattle.pv_eval.specs.States.{Setting}
 use Rattle.pv_eval.specs.TypeForms.{Lvalue, size_of}
-use Rattle.pv_eval.specs.Suiting.{is_size, is_live, has_room}
+use Rattle.pv_world.specs.Suiting.{is_size, is_live, has_room}
 use Rattle.pv_eval.specs.Objects.{request_of, makes, instance_for, ends, makes_literal, makes_function, can_fill, fills, can_put, puts, text_for, can_put_text, puts_text, can_make}
 use Rattle.pv_eval.specs.ObjectParts.{names_object, can_place}
 use Rattle.pv_numbering.proofs.Alike.{with_types, AlikeWorth, AlikeLvalue}

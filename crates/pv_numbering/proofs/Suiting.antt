@@ -6,8 +6,8 @@ use Rattle.pv_shadow.specs.declared.byte.Byte.{Byte}
 use Rattle.pv_world.specs.declared.got.Shape.{Shape}
 use Rattle.pv_world.specs.declared.got.Shape.TheVariants as shape
 use Rattle.pv_world.specs.Worlds.{Worth}
-use Rattle.pv_eval.specs.Suiting.{knows, knows_worth, is_small, is_integer, is_stored, has_part}
-use Rattle.pv_eval.specs.SuitingParts.{knows_bytes}
+use Rattle.pv_world.specs.Suiting.{knows, knows_worth, is_small, is_integer, is_stored, has_part}
+use Rattle.pv_world.specs.SuitingParts.{knows_bytes}
 use Rattle.pv_numbering.proofs.Marks.{AlikeBytes}
 use Rattle.pv_numbering.proofs.Alike.{AlikeWorth}
 use Rattle.pv_numbering.proofs.Bytes.{length-same}

@@ -32,7 +32,7 @@ use Rattle.pv_eval.specs.Objects.{where_possible, has_extent, heap_name, request
 use Rattle.pv_eval.specs.ObjectParts.{can_place}
 use Rattle.pv_eval.specs.Callees.{may_call}
 use Rattle.pv_eval.specs.Library.{replied, with_memory, asked, asks}
-use Rattle.pv_eval.specs.Suiting.{is_live}
+use Rattle.pv_world.specs.Suiting.{is_live}
 use Rattle.pv_eval.specs.Operations.{Op, Converts, Calculates, CalculatesOne, Tests, Negates, Accepts, Needs, Moves, Subtracts, Orders, Equals, Follows, Selects, Finds, TakesPart, Reads, Writes, NamesObject, NamesLiteral, NamesFunction, MakesFunction, Makes, MakesLiteral, Ends, BeginsBody, EndsBody, Fills, Puts, PutsText, Asks, suits, works, does}
 use Rattle.pv_verdicts.specs.Own.{OwnNames, DeniesHeap}
 use Rattle.pv_verdicts.proofs.Refusals.{FineReplied, stop-fine, created-fine, called-fine}

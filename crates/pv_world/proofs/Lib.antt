@@ -3,6 +3,7 @@ pub mod Comings
 pub mod Bindings
 pub mod Makings
 pub mod Laters
+pub mod Guards
 pub mod Literals
 pub mod Used
 pub mod Differences

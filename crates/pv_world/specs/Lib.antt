@@ -3,6 +3,8 @@ pub mod Worlds
 pub mod Telling
 pub mod Doing
 pub mod Worths
+pub mod Suiting
+pub mod SuitingParts
 pub mod Hows
 pub mod Conversions
 pub mod BoundParts

@@ -2,7 +2,7 @@
 //
 // What an effective type permits (6.5p7) and whether an access has rivals (6.5p2) is known above: so the checks of memory,
 // the value of what was reached and a store are calls of their own.
-ghost use Rattle.std.specs.Prelude.{◌≡◌, ◌≤◌, ◌++◌, All, length, OnOk, IfOk, IfErr};
+ghost use Rattle.std.specs.Prelude.{◌≡◌, ◌≤◌, ◌++◌, ◌&&◌, All, length, OnOk, IfOk, IfErr};
 ghost use Rattle.pv_inst.specs.declared.values.Test.{Test};
 ghost use Rattle.pv_inst.specs.Table.{IsMadeIn};
 ghost use Rattle.pv_inst.specs.Use.{use_answer, settled};
@@ -18,6 +18,7 @@ ghost use Rattle.pv_world.specs.Objects.{put_at};
 ghost use Rattle.pv_world.specs.Accesses.{reaching, worth_in, mark_of, stored_as, takes_bytes};
 ghost use Rattle.pv_world.specs.AccessParts.{range_use};
 ghost use Rattle.pv_world.specs.Preconditions.{HasSizeOf, HasPart, IsStored};
+ghost use Rattle.pv_world.specs.Suiting.{where_suiting, has_part, knows_worth};
 ghost use Rattle.pv_world.specs.Loads.{ReadsOn};
 ghost use Rattle.pv_world.specs.Coming.{Came, Did, seen, worth_of, IsMadeWorth};
 
@@ -25,6 +26,7 @@ use crate::failing::{Blame, blame_of, fail, stopped_after};
 use crate::got::{Failure, Got, Shape};
 use crate::loads::{blame_of_bytes, blame_since, blame_within};
 use crate::operands::missing;
+use crate::suiting::unfit;
 use crate::telling::tell_used;
 use crate::world::World;
 use pv_num::IntKind;
@@ -181,9 +183,33 @@ impl World {
         self.valued(bytes, shape, Some(at.address), Some(blame), loaded, told)
     }
 
-    /// A member of a structure or union value (6.5.2.3p3), which begins at the offset.
-    #[tactic(auto, using(crate::proofs::Comings::came_fails, crate::proofs::Laters::later_itself))]
+    /// A member of a structure or union value (6.5.2.3p3), which begins at the offset, or the end of the run as by a missing
+    /// value.
+    #[tactic(auto, using(crate::proofs::Guards::suited, crate::proofs::Guards::unsuited, crate::proofs::Laters::later_itself))]
     pub fn part(
+        &mut self,
+        offset: u64,
+        size: u64,
+        shape: Shape,
+        v: &Got,
+        told: &mut Vec<What>,
+    ) -> Result<Got, Failure>
+        requires size { HasSizeOf shape size }
+        ensures did { Did worth_of (where_suiting (has_part (worth_of v.now) offset size && knows_worth self.old.memory.table (worth_of v.now)) (takes_bytes offset size shape (worth_of v.now))) result self.old self.new told.old.items told.new.items }
+        ensures later { IsLater self.old.memory.table self.new.memory.table }
+        ensures memory { self.new ≡ record self.old { memory = self.new.memory } }
+        ensures made { IfOk result (λ g. IsMadeWorth self.new.memory.table (worth_of g)) }
+    {
+        if self.can_take(offset, size, v) {
+            self.part_suiting(offset, size, shape, v, told)
+        } else {
+            Err(unfit(told))
+        }
+    }
+
+    // The same of a value that has these bytes.
+    #[tactic(auto, using(crate::proofs::Comings::came_fails, crate::proofs::Laters::later_itself))]
+    fn part_suiting(
         &mut self,
         offset: u64,
         size: u64,

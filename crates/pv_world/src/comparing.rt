@@ -1,16 +1,18 @@
 // The equality and the order of pointers (6.5.8p5, 6.5.9p6).
-ghost use Rattle.std.specs.Prelude.{◌≡◌, ◌<◌, pos, true, Ok, IfOk};
+ghost use Rattle.std.specs.Prelude.{◌≡◌, ◌<◌, ◌&&◌, pos, true, Ok, IfOk};
 ghost use Rattle.pv_num.specs.Arithmetic.{binary_of};
 ghost use Rattle.pv_inst.specs.Table.{IsMadeIn};
 ghost use Rattle.pv_object.specs.Later.{IsLater};
 ghost use Rattle.pv_object.specs.Operations.{order, equal};
 ghost use Rattle.pv_world.specs.Pointers.{orders, ordered_by, is_order, equals, equal_by};
+ghost use Rattle.pv_world.specs.Suiting.{where_suiting, knows_both};
 ghost use Rattle.pv_world.specs.Coming.{Did, worth_of, IsMadeWorth};
 
 use crate::failing::{blame_of, fail, stopped, stopped_after};
 use crate::got::{Failure, Got};
 use crate::operands::{pointer_of, truth_value, unplain};
 use crate::subtracting::tell_both;
+use crate::suiting::unfit;
 use crate::world::World;
 use pv_num::{BinOp, IntKind};
 use pv_object::{Pointer, Value};
@@ -32,9 +34,30 @@ fn compared(op: BinOp, p: u64, q: u64) -> i128
 }
 
 impl World {
-    /// Whether two pointers are equal, or are not (6.5.9p6).
-    #[tactic(auto, using(crate::proofs::Comings::came_fails, crate::proofs::Laters::later_itself, crate::proofs::Laters::made_later))]
+    /// Whether two pointers are equal, or are not (6.5.9p6), or the end of the run as by a missing value.
+    #[tactic(auto, using(crate::proofs::Guards::suited, crate::proofs::Guards::unsuited, crate::proofs::Laters::later_itself))]
     pub fn equal(
+        &mut self,
+        negated: bool,
+        v: &Got,
+        x: &Got,
+        told: &mut Vec<What>,
+    ) -> Result<Got, Failure>
+        ensures did { Did worth_of (where_suiting (knows_both self.old.memory.table (worth_of v.now) (worth_of x.now)) (equals negated (worth_of v.now) (worth_of x.now))) result self.old self.new told.old.items told.new.items }
+        ensures later { IsLater self.old.memory.table self.new.memory.table }
+        ensures memory { self.new ≡ record self.old { memory = self.new.memory } }
+        ensures made { IfOk result (λ g. IsMadeWorth self.new.memory.table (worth_of g)) }
+    {
+        if self.knows_both(v, x) {
+            self.equal_suiting(negated, v, x, told)
+        } else {
+            Err(unfit(told))
+        }
+    }
+
+    // The same of two values whose names were made.
+    #[tactic(auto, using(crate::proofs::Comings::came_fails, crate::proofs::Laters::later_itself, crate::proofs::Laters::made_later))]
+    fn equal_suiting(
         &mut self,
         negated: bool,
         v: &Got,
@@ -83,9 +106,30 @@ impl World {
         }
     }
 
-    /// The order of two pointers (6.5.8p5).
-    #[tactic(auto, using(crate::proofs::Comings::came_fails, crate::proofs::Laters::later_itself, crate::proofs::Laters::made_later))]
+    /// The order of two pointers (6.5.8p5), or the end of the run as by a missing value.
+    #[tactic(auto, using(crate::proofs::Guards::suited, crate::proofs::Guards::unsuited, crate::proofs::Laters::later_itself))]
     pub fn order(
+        &mut self,
+        op: BinOp,
+        v: &Got,
+        x: &Got,
+        told: &mut Vec<What>,
+    ) -> Result<Got, Failure>
+        ensures did { Did worth_of (where_suiting (is_order op && knows_both self.old.memory.table (worth_of v.now) (worth_of x.now)) (orders op (worth_of v.now) (worth_of x.now))) result self.old self.new told.old.items told.new.items }
+        ensures later { IsLater self.old.memory.table self.new.memory.table }
+        ensures memory { self.new ≡ record self.old { memory = self.new.memory } }
+        ensures made { IfOk result (λ g. IsMadeWorth self.new.memory.table (worth_of g)) }
+    {
+        if self.can_order(op, v, x) {
+            self.order_suiting(op, v, x, told)
+        } else {
+            Err(unfit(told))
+        }
+    }
+
+    // The same of two values whose names were made.
+    #[tactic(auto, using(crate::proofs::Comings::came_fails, crate::proofs::Laters::later_itself, crate::proofs::Laters::made_later))]
+    fn order_suiting(
         &mut self,
         op: BinOp,
         v: &Got,

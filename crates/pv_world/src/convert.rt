@@ -6,12 +6,14 @@ ghost use Rattle.pv_object.specs.Operations.{recast};
 ghost use Rattle.pv_world.specs.Hows.{IsHow};
 ghost use Rattle.pv_world.specs.Worths.{unplain, int_of, pointer_of};
 ghost use Rattle.pv_world.specs.Preconditions.{IsSmall};
+ghost use Rattle.pv_world.specs.Suiting.{where_suiting, is_convertible};
 ghost use Rattle.pv_world.specs.Conversions.{converts, recast_by, passes};
 ghost use Rattle.pv_world.specs.Coming.{Did, worth_of, IsMadeWorth};
 
 use crate::failing::{blame_of, fail, stopped_after};
 use crate::got::{Failure, Got, How};
 use crate::operands::{int_of, missing, pointer_of, truth_value, unplain};
+use crate::suiting::unfit;
 use crate::telling::tell_used;
 use crate::world::World;
 use pv_num::{IntKind, convert};
@@ -19,8 +21,24 @@ use pv_object::{Pointer, Value};
 use pv_watch::{LIVE_TEST, What};
 
 impl World {
-    /// A conversion (6.3).
+    /// A conversion (6.3), or the end of the run as by a missing value.
+    #[tactic(auto, using(crate::proofs::Guards::suited, crate::proofs::Guards::unsuited, crate::proofs::Laters::later_itself))]
     pub fn convert(&mut self, how: How, v: Got, told: &mut Vec<What>) -> Result<Got, Failure>
+        requires sized { IsHow how }
+        ensures did { Did worth_of (where_suiting (is_convertible self.old.memory.table (worth_of v)) (converts how (worth_of v))) result self.old self.new told.old.items told.new.items }
+        ensures later { IsLater self.old.memory.table self.new.memory.table }
+        ensures memory { self.new ≡ record self.old { memory = self.new.memory } }
+        ensures made { IfOk result (λ g. IsMadeWorth self.new.memory.table (worth_of g)) }
+    {
+        if self.is_convertible(&v) {
+            self.convert_suiting(how, v, told)
+        } else {
+            Err(unfit(told))
+        }
+    }
+
+    // A conversion of a value that is one of its type.
+    fn convert_suiting(&mut self, how: How, v: Got, told: &mut Vec<What>) -> Result<Got, Failure>
         requires sized { IsHow how }
         requires small { IsSmall (worth_of v) }
         requires made { IsMadeWorth self.old.memory.table (worth_of v) }
@@ -32,7 +50,7 @@ impl World {
         match how {
             How::Rounds(k) => self.round(k, &v, told),
             How::Passes(k) => self.pass(k, v, told),
-            How::Tests => match self.test(&v, told) {
+            How::Tests => match self.test_suiting(&v, told) {
                 Ok(t) => Ok(truth_value(t)),
                 Err(e) => Err(e),
             },

@@ -79,7 +79,7 @@ impl World {
 
     /// The function that a value points to (6.5.2.2p1): the number of the function that its instance was made for. Whether it
     /// may be called so, the caller finds out; where it may not, the run ends by `unlike`, with the candidates that the
-    /// pointer had before.
+    /// pointer had before. The caller has looked whether the name in the value was made, since it asks for these before.
     #[tactic(auto, using(crate::proofs::Comings::came_fails, crate::proofs::Laters::later_itself))]
     pub fn callee(&mut self, v: &Got, told: &mut Vec<What>) -> Result<Option<u32>, Failure>
         requires { IsMadeWorth self.old.memory.table (worth_of v.now) }

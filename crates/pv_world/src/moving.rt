@@ -5,12 +5,14 @@ ghost use Rattle.pv_object.specs.Later.{IsLater};
 ghost use Rattle.pv_object.specs.Operations.{shift, select};
 ghost use Rattle.pv_world.specs.Preconditions.{IsSmall};
 ghost use Rattle.pv_world.specs.Pointers.{distance, moves, moved_by};
-ghost use Rattle.pv_world.specs.PointerParts.{follows, selects};
+ghost use Rattle.pv_world.specs.PointerParts.{selects};
+ghost use Rattle.pv_world.specs.Suiting.{where_suiting, knows_worth, can_shift};
 ghost use Rattle.pv_world.specs.Coming.{Did, worth_of, IsMadeWorth};
 
 use crate::failing::{blame_of, fail, stopped};
 use crate::got::{Failure, Got};
 use crate::operands::{int_of, pointer_of, unplain, unpresent};
+use crate::suiting::unfit;
 use crate::telling::tell_used;
 use crate::world::World;
 use pv_object::{Pointer, Value};
@@ -29,9 +31,33 @@ fn distance(minus: bool, size: u64, n: i128) -> i128
 }
 
 impl World {
-    /// A pointer moved by so many elements of this size (6.5.6p8).
-    #[tactic(auto, using(crate::proofs::Comings::came_fails, crate::proofs::Laters::later_itself, crate::proofs::Laters::made_later))]
+    /// A pointer moved by so many elements of this size (6.5.6p8), or the end of the run as by a missing value.
+    #[tactic(auto, using(crate::proofs::Guards::suited, crate::proofs::Guards::unsuited, crate::proofs::Laters::later_itself))]
     pub fn shift(
+        &mut self,
+        minus: bool,
+        pointer_first: bool,
+        size: u64,
+        v: &Got,
+        x: &Got,
+        told: &mut Vec<What>,
+    ) -> Result<Got, Failure>
+        requires sized { size < 2 ^ 62 }
+        ensures did { Did worth_of (where_suiting (can_shift self.old.memory.table (worth_of v.now) (worth_of x.now)) (moves minus pointer_first size (worth_of v.now) (worth_of x.now))) result self.old self.new told.old.items told.new.items }
+        ensures later { IsLater self.old.memory.table self.new.memory.table }
+        ensures memory { self.new ≡ record self.old { memory = self.new.memory } }
+        ensures made { IfOk result (λ g. IsMadeWorth self.new.memory.table (worth_of g)) }
+    {
+        if self.can_shift(v, x) {
+            self.shift_suiting(minus, pointer_first, size, v, x, told)
+        } else {
+            Err(unfit(told))
+        }
+    }
+
+    // The same of a pointer and an integer.
+    #[tactic(auto, using(crate::proofs::Comings::came_fails, crate::proofs::Laters::later_itself, crate::proofs::Laters::made_later))]
+    fn shift_suiting(
         &mut self,
         minus: bool,
         pointer_first: bool,
@@ -82,9 +108,24 @@ impl World {
         }
     }
 
-    /// The place of a member (6.5.2.3).
-    #[tactic(auto, using(crate::proofs::Comings::came_fails, crate::proofs::Laters::later_itself, crate::proofs::Laters::made_later))]
+    /// The place of a member (6.5.2.3), or the end of the run as by a missing value.
+    #[tactic(auto, using(crate::proofs::Guards::suited, crate::proofs::Guards::unsuited, crate::proofs::Laters::later_itself))]
     pub fn select(&mut self, offset: u64, v: &Got, told: &mut Vec<What>) -> Result<Got, Failure>
+        ensures did { Did worth_of (where_suiting (knows_worth self.old.memory.table (worth_of v.now)) (selects offset (worth_of v.now))) result self.old self.new told.old.items told.new.items }
+        ensures later { IsLater self.old.memory.table self.new.memory.table }
+        ensures memory { self.new ≡ record self.old { memory = self.new.memory } }
+        ensures made { IfOk result (λ g. IsMadeWorth self.new.memory.table (worth_of g)) }
+    {
+        if self.knows(v) {
+            self.select_suiting(offset, v, told)
+        } else {
+            Err(unfit(told))
+        }
+    }
+
+    // The same of a value whose names were made.
+    #[tactic(auto, using(crate::proofs::Comings::came_fails, crate::proofs::Laters::later_itself, crate::proofs::Laters::made_later))]
+    fn select_suiting(&mut self, offset: u64, v: &Got, told: &mut Vec<What>) -> Result<Got, Failure>
         requires { IsMadeWorth self.old.memory.table (worth_of v.now) }
         ensures did { Did worth_of (selects offset (worth_of v.now)) result self.old self.new told.old.items told.new.items }
         ensures later { IsLater self.old.memory.table self.new.memory.table }
@@ -113,21 +154,6 @@ impl World {
                 Err(_) => Err(Failure::NoMemory),
             },
             Err(stop) => Err(stopped(told, stop, Some(blame))),
-        }
-    }
-
-    /// What `*` gives (6.5.3.2p4): nothing is checked but that there is a value.
-    #[tactic(auto, using(crate::proofs::Comings::came_fails, crate::proofs::Laters::later_itself, crate::proofs::Laters::made_later))]
-    pub fn follow(&mut self, v: Got, told: &mut Vec<What>) -> Result<Got, Failure>
-        requires { IsMadeWorth self.old.memory.table (worth_of v) }
-        ensures did { Did worth_of (follows (worth_of v)) result self.old self.new told.old.items told.new.items }
-        ensures later { IsLater self.old.memory.table self.new.memory.table }
-        ensures memory { self.new ≡ record self.old { memory = self.new.memory } }
-        ensures made { IfOk result (λ g. IsMadeWorth self.new.memory.table (worth_of g)) }
-    {
-        match unpresent(&v) {
-            Some(cause) => Err(fail(told, cause, None)),
-            None => Ok(v),
         }
     }
 }

@@ -63,9 +63,9 @@ impl World {
         self.memory.write_bytes(&at, bytes);
     }
 
-    /// Whether an instance is live and has so many bytes from an offset on.
+    // Whether an instance is live and has so many bytes from an offset on.
     #[tactic(auto, using(crate::proofs::Rooms::room_there, crate::proofs::Rooms::room_only, crate::proofs::Rooms::no_room))]
-    pub fn has_room(&self, i: u64, offset: u64, n: u64) -> bool
+    pub(crate) fn has_live(&self, i: u64, offset: u64, n: u64) -> bool
         ensures there { result ≡ true → HasRoom self.now i offset n }
         ensures only { HasRoom self.now i offset n → result ≡ true }
     {

@@ -1,15 +1,17 @@
 // Differences of pointers (6.5.6p9).
-ghost use Rattle.std.specs.Prelude.{◌≡◌, ◌≤◌, ◌++◌, ◌-ℤ◌, pos, OnOk, IfOk};
+ghost use Rattle.std.specs.Prelude.{◌≡◌, ◌≤◌, ◌++◌, ◌-ℤ◌, ◌&&◌, nat_le, pos, OnOk, IfOk};
 ghost use Rattle.pv_inst.specs.Table.{IsMadeIn};
 ghost use Rattle.pv_object.specs.Later.{IsLater};
 ghost use Rattle.pv_world.specs.Telling.{used};
 ghost use Rattle.pv_world.specs.Pointers.{subtracts, in_elements};
 ghost use Rattle.pv_world.specs.PointerParts.{between};
+ghost use Rattle.pv_world.specs.Suiting.{where_suiting, knows_both};
 ghost use Rattle.pv_world.specs.Coming.{Did, worth_of, IsMadeWorth};
 
 use crate::failing::{blame_of, fail, stopped};
 use crate::got::{Failure, Got};
 use crate::operands::{pointer_of, uneven, unplain};
+use crate::suiting::unfit;
 use crate::telling::tell_used;
 use crate::world::World;
 use pv_inst::Tried;
@@ -47,9 +49,30 @@ fn elements_between(p: u64, q: u64, size: u64) -> Option<i128>
 }
 
 impl World {
-    /// The difference of two pointers in elements of this size (6.5.6p9).
-    #[tactic(auto, using(crate::proofs::Comings::came_fails, crate::proofs::Laters::later_itself, crate::proofs::Laters::made_later))]
+    /// The difference of two pointers in elements of this size (6.5.6p9), or the end of the run as by a missing value.
+    #[tactic(auto, using(crate::proofs::Guards::suited, crate::proofs::Guards::unsuited, crate::proofs::Laters::later_itself))]
     pub fn subtract(
+        &mut self,
+        size: u64,
+        v: &Got,
+        x: &Got,
+        told: &mut Vec<What>,
+    ) -> Result<Got, Failure>
+        ensures did { Did worth_of (where_suiting (nat_le 1 size && knows_both self.old.memory.table (worth_of v.now) (worth_of x.now)) (subtracts size (worth_of v.now) (worth_of x.now))) result self.old self.new told.old.items told.new.items }
+        ensures later { IsLater self.old.memory.table self.new.memory.table }
+        ensures memory { self.new ≡ record self.old { memory = self.new.memory } }
+        ensures made { IfOk result (λ g. IsMadeWorth self.new.memory.table (worth_of g)) }
+    {
+        if self.can_subtract(size, v, x) {
+            self.subtract_suiting(size, v, x, told)
+        } else {
+            Err(unfit(told))
+        }
+    }
+
+    // The same of two values whose names were made.
+    #[tactic(auto, using(crate::proofs::Comings::came_fails, crate::proofs::Laters::later_itself, crate::proofs::Laters::made_later))]
+    fn subtract_suiting(
         &mut self,
         size: u64,
         v: &Got,

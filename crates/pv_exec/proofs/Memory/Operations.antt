@@ -42,10 +42,10 @@ use Rattle.pv_eval.specs.Objects.{where_possible, heap_name, request_of, makes, 
 use Rattle.pv_eval.specs.ObjectParts.{can_place}
 use Rattle.pv_eval.specs.Callees.{may_call}
 use Rattle.pv_eval.specs.Library.{replied, with_memory, asked, asks}
-use Rattle.pv_eval.specs.Suiting.{is_size, is_stored, is_live, has_room, knows_worth, live_in}
+use Rattle.pv_world.specs.Suiting.{is_size, is_stored, is_live, has_room, knows_worth, live_in}
 use Rattle.pv_eval.specs.Operations.{Op, Converts, Calculates, CalculatesOne, Tests, Negates, Accepts, Needs, Moves, Subtracts, Orders, Equals, Follows, Selects, Finds, TakesPart, Reads, Writes, NamesObject, NamesLiteral, NamesFunction, Makes, MakesLiteral, MakesFunction, Ends, BeginsBody, EndsBody, Fills, Puts, PutsText, Asks, suits, works, does}
 use Rattle.pv_eval.proofs.Closed.{IsLvalue, IsAsked}
-use Rattle.pv_eval.proofs.Guards.{left_of, right_of, worth_made}
+use Rattle.pv_world.proofs.Guards.{left_of, right_of, worth_made}
 use Rattle.pv_exec.proofs.Memory.Calls.{called-leads}
 use Rattle.pv_exec.proofs.Memory.Worlds.{Onward, unless-on, tests-on, converts-on, calculates-on, calculates-one-on, follows-on, moves-on, selects-on, between-on, order-on, equals-on, reaching-on, worth-on, takes-on, finds-on, object-on, function-on, literal-on, ends-on, put-on}
 use Rattle.pv_exec.proofs.Memory.Reached.{AreInLive}

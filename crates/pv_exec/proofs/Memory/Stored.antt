@@ -34,10 +34,10 @@ use Rattle.pv_world.specs.ObjectParts.{filling}
 use Rattle.pv_world.specs.Preconditions.{HasSizeOf, IsStored}
 use Rattle.pv_eval.specs.States.{Setting}
 use Rattle.pv_eval.specs.TypeForms.{Lvalue, lvalue, shape_of, size_of}
-use Rattle.pv_eval.specs.Suiting.{is_stored, has_room}
-use Rattle.pv_eval.specs.SuitingParts.{room_in}
+use Rattle.pv_world.specs.Suiting.{is_stored, has_room}
+use Rattle.pv_world.specs.SuitingParts.{room_in}
 use Rattle.pv_eval.proofs.Closed.{IsLvalue}
-use Rattle.pv_eval.proofs.Guards.{left_of, right_of, stored_is}
+use Rattle.pv_world.proofs.Guards.{left_of, right_of, stored_is}
 use Rattle.pv_eval.proofs.Settings.{scalar_sized}
 use Rattle.pv_exec.proofs.Memory.Reached.{AreInLive}
 

@@ -29,7 +29,7 @@ use Rattle.pv_inst.specs.EndingParts.{ending, over}
 use Rattle.pv_inst.proofs.Rows.{row_found}
 use Rattle.pv_inst.proofs.Together.{Common, common_found, left_can, right_can}
 use Rattle.pv_eval.specs.ActingParts.{keeps_both}
-use Rattle.pv_eval.proofs.Guards.{left_of, right_of}
+use Rattle.pv_world.proofs.Guards.{left_of, right_of}
 use Rattle.pv_exec.proofs.Memory.Ways.{Changes, OfTables, of-tables}
 use Rattle.pv_exec.proofs.Memory.Findings.{name-leads}
 use Rattle.pv_exec.proofs.Memory.Rows.{Leads, led-itself, led-trans, row-led, push-led, MayKeep, kept-led}

@@ -38,10 +38,11 @@ use Rattle.pv_eval.specs.Objects.{where_possible, request_of, makes, instance_fo
 use Rattle.pv_eval.specs.ObjectParts.{can_place}
 use Rattle.pv_eval.specs.Callees.{may_call}
 use Rattle.pv_eval.specs.Library.{asks}
-use Rattle.pv_eval.specs.Suiting.{is_size, is_live, has_room, knows, knows_value, knows_worth, is_small, is_stored, has_part}
-use Rattle.pv_eval.specs.SuitingParts.{knows_bytes, knows_arguments}
+use Rattle.pv_world.specs.Suiting.{is_size, is_live, has_room, knows, knows_value, knows_worth, is_small, is_stored, has_part}
+use Rattle.pv_world.specs.SuitingParts.{knows_bytes}
+use Rattle.pv_eval.specs.LibraryParts.{knows_arguments}
 use Rattle.pv_eval.specs.Operations.{Op, Converts, Calculates, CalculatesOne, Tests, Negates, Accepts, Needs, Moves, Subtracts, Orders, Equals, Follows, Selects, Finds, TakesPart, Reads, Writes, NamesObject, NamesLiteral, NamesFunction, Makes, MakesLiteral, MakesFunction, Ends, BeginsBody, EndsBody, Fills, Puts, PutsText, Asks, suits, works, does}
-use Rattle.pv_eval.proofs.Guards.{left_of, right_of, worth_made}
+use Rattle.pv_world.proofs.Guards.{left_of, right_of, worth_made}
 use Rattle.pv_exec.proofs.Memory.Rows.{Leads, led-itself}
 use Rattle.pv_exec.proofs.Memory.Tables.{leading}
 use Rattle.pv_exec.proofs.Memory.Ways.{OfTables}

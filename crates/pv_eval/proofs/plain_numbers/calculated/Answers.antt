@@ -3,7 +3,7 @@ use Rattle.std.specs.Int.{w128}
 use Rattle.std.proofs.lemmas.Int.{to_z-of_z}
 use Rattle.pv_num.specs.Kinds.{fits_of}
 use Rattle.pv_num.specs.Arithmetic.{binary_of}
-use Rattle.pv_eval.specs.Suiting.{is_operand}
+use Rattle.pv_world.specs.Suiting.{is_operand}
 use Rattle.pv_eval.proofs.PlainNumbers.{calculated_some}
 use Rattle.pv_eval.proofs.plain_numbers.calculated.Goals as goal
 

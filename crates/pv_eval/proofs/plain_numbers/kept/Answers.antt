@@ -3,7 +3,7 @@ use Rattle.std.specs.Int.{w128}
 use Rattle.std.proofs.lemmas.Int.{to_z-of_z}
 use Rattle.pv_num.specs.Kinds.{Fits, convert_of}
 use Rattle.pv_world.specs.Worths.{int}
-use Rattle.pv_eval.specs.Suiting.{is_small}
+use Rattle.pv_world.specs.Suiting.{is_small}
 use Rattle.pv_eval.specs.Plainly.{found_worth}
 use Rattle.pv_eval.proofs.PlainNumbers.{member_kept, kept_some}
 use Rattle.pv_eval.proofs.plain_numbers.kept.Goals as goal

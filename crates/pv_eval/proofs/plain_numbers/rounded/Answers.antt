@@ -5,7 +5,7 @@ use Rattle.pv_num.specs.Kinds.{convert_of}
 use Rattle.pv_types.specs.Known.{Known, tree}
 use Rattle.pv_world.specs.Worths.{int}
 use Rattle.pv_eval.specs.TypeForms.{shape_of}
-use Rattle.pv_eval.specs.Suiting.{is_small}
+use Rattle.pv_world.specs.Suiting.{is_small}
 use Rattle.pv_eval.proofs.PlainNumbers.{rounded_some}
 use Rattle.pv_eval.proofs.plain_numbers.rounded.Goals as goal
 

@@ -6,7 +6,7 @@ use Rattle.pv_fault.specs.declared.faults.Clause.TheVariants.{AdditionOfPointers
 use Rattle.pv_world.specs.Worlds.{Worth}
 use Rattle.pv_world.specs.Worths.{int, pointer}
 use Rattle.pv_world.specs.Pointers.{distance}
-use Rattle.pv_eval.specs.Suiting.{is_small}
+use Rattle.pv_world.specs.Suiting.{is_small}
 use Rattle.pv_eval.specs.Operations.{Moves}
 use Rattle.pv_eval.specs.Plainly.{GivesAt, HasMoved, found_worth, pointer_at}
 use Rattle.pv_eval.proofs.PlainPlaces.{stepped_some}

@@ -8,11 +8,11 @@ use Rattle.pv_seq.specs.Rivals.{top, below}
 use Rattle.pv_world.specs.Worths.{pointer_of}
 use Rattle.pv_world.specs.Coming.{Did, worth_of}
 use Rattle.pv_eval.specs.TypeForms.{lvalue}
-use Rattle.pv_eval.specs.Suiting.{knows_worth}
+use Rattle.pv_world.specs.Suiting.{knows_worth}
 use Rattle.pv_eval.specs.Sizes.{setting_of}
 use Rattle.pv_eval.specs.AccessParts.{reads_from}
 use Rattle.pv_eval.specs.Operations.{Reads}
-use Rattle.pv_eval.proofs.Guards.{both_of}
+use Rattle.pv_world.proofs.Guards.{both_of}
 use Rattle.pv_eval.proofs.Chosen.{suited, unsuited}
 use Rattle.pv_eval.proofs.Through.{fits_lvalue, lvalue_fits, right_false}
 use Rattle.pv_eval.proofs.reading.read_known.Goals as goal

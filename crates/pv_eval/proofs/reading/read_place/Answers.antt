@@ -8,7 +8,7 @@ use Rattle.pv_seq.specs.Rivals.{top, below}
 use Rattle.pv_world.specs.Worths.{pointer_of}
 use Rattle.pv_world.specs.Coming.{Did, worth_of}
 use Rattle.pv_eval.specs.TypeForms.{lvalue}
-use Rattle.pv_eval.specs.Suiting.{is_size}
+use Rattle.pv_world.specs.Suiting.{is_size}
 use Rattle.pv_eval.specs.Sizes.{setting_of, size_in, IsComplete}
 use Rattle.pv_eval.specs.Accesses.{access_to}
 use Rattle.pv_eval.specs.Operations.{Reads, does}

@@ -12,11 +12,11 @@ use Rattle.pv_world.specs.Doing.{Done}
 use Rattle.pv_world.specs.Preconditions.{IsStored, HasSizeOf}
 use Rattle.pv_world.specs.Coming.{Did, Came, seen, worth_of}
 use Rattle.pv_eval.specs.TypeForms.{lvalue, shape_of}
-use Rattle.pv_eval.specs.Suiting.{is_stored, knows_worth}
+use Rattle.pv_world.specs.Suiting.{is_stored, knows_worth}
 use Rattle.pv_eval.specs.Sizes.{setting_of, size_in}
 use Rattle.pv_eval.specs.Accesses.{writes_to}
 use Rattle.pv_eval.specs.Operations.{Writes}
-use Rattle.pv_eval.proofs.Guards.{both_of}
+use Rattle.pv_world.proofs.Guards.{both_of}
 use Rattle.pv_eval.proofs.Settings.{scalar_sized}
 use Rattle.pv_eval.proofs.Chosen.{suited, unsuited}
 use Rattle.pv_eval.proofs.Through.{fits_lvalue, lvalue_fits, right_false, stored_present}

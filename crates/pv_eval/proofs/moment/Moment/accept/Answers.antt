@@ -12,5 +12,5 @@ returns-clause-acted c = λ b out es hs hf.
     (Accepts (worth_of c.args.v)) (Accepts (worth_of c.args.v)) c.args.line c.accept-answer.result c.args.self.now c.args.self.now _ _ _ _ out es
     refl hs hf c.new-told.ensures.items c.deref.ensures.value
     refl
-    (c.accept-answer.ensures b c.args.self.now.world)
+    (c.accept-answer.ensures.did c.args.self.now.world)
     (λ op s f d. c.close.ensures.acted b _ op out es s (c.pairs_made-before.ensures ∙ ap (λ (m : Moment). pair_count m.world) c.self.view_is) f d)

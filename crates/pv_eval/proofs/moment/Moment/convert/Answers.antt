@@ -16,5 +16,5 @@ returns-clause-acted c = λ b out es hs hf.
     (Converts (how_to b c.args.implied (tree u.known c.args.from.0) (tree u.known c.args.to.0)) v) (Converts c.how-how.result v) c.args.line c.convert-answer.result _ _ _ _ _ _ out es
     c.self.view_is hs hf c.new-told.ensures.items c.deref.ensures.value
     (ap (λ h. Converts h v) (c.how-how.ensures.how ∙ how_is b u c.types.result.now hs.unit c.types.ensures c.args.implied c.args.from.0 c.args.to.0))
-    (c.convert-answer.ensures b)
+    c.convert-answer.ensures.did
     (λ op s f d. c.close.ensures.acted b _ op out es s c.pairs_made-before.ensures f d)

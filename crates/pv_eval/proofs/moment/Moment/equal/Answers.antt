@@ -11,5 +11,5 @@ returns-clause-acted c = λ b out es hs hf.
     (Equals c.args.negated (worth_of c.args.v) (worth_of c.args.w)) (Equals c.args.negated (worth_of c.args.v) (worth_of c.args.w)) c.args.line c.equal-answer.result _ _ _ _ _ _ out es
     c.self.view_is hs hf c.new-told.ensures.items c.deref.ensures.value
     refl
-    (c.equal-answer.ensures b)
+    c.equal-answer.ensures.did
     (λ op s f d. c.close.ensures.acted b _ op out es s c.pairs_made-before.ensures f d)

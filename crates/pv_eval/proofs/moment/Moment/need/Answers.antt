@@ -13,5 +13,5 @@ returns-clause-needed c = λ u b out es hs hf.
     (Needs (worth_of c.args.v)) (Needs (worth_of c.args.v)) c.args.line c.need-answer.result c.args.self.now c.args.self.now _ _ _ _ out es
     refl hs hf c.new-told.ensures.items c.deref.ensures.value
     refl
-    (c.need-answer.ensures b c.args.self.now.world)
+    (c.need-answer.ensures.did c.args.self.now.world)
     (λ op s f d. c.close_number.ensures.needed b _ op out es s (c.pairs_made-before.ensures ∙ ap (λ (m : Moment). pair_count m.world) c.self.view_is) f d)

@@ -11,5 +11,5 @@ returns-clause-acted c = λ b out es hs hf.
     (Negates (worth_of c.args.v)) (Negates (worth_of c.args.v)) c.args.line c.negate-answer.result _ _ _ _ _ _ out es
     c.self.view_is hs hf c.new-told.ensures.items c.deref.ensures.value
     refl
-    (c.negate-answer.ensures b)
+    c.negate-answer.ensures.did
     (λ op s f d. c.close.ensures.acted b _ op out es s c.pairs_made-before.ensures f d)

@@ -11,5 +11,5 @@ returns-clause-acted c = λ b out es hs hf.
     (Orders c.args.op (worth_of c.args.v) (worth_of c.args.w)) (Orders c.args.op (worth_of c.args.v) (worth_of c.args.w)) c.args.line c.order-answer.result _ _ _ _ _ _ out es
     c.self.view_is hs hf c.new-told.ensures.items c.deref.ensures.value
     refl
-    (c.order-answer.ensures b)
+    c.order-answer.ensures.did
     (λ op s f d. c.close.ensures.acted b _ op out es s c.pairs_made-before.ensures f d)

@@ -12,5 +12,5 @@ returns-clause-acted c = λ b out es hs hf.
     (Converts (Rounds c.args.kind) (worth_of c.args.v)) (Converts (Rounds c.args.kind) (worth_of c.args.v)) c.args.line c.convert-answer.result _ _ _ _ _ _ out es
     c.self.view_is hs hf c.new-told.ensures.items c.deref.ensures.value
     refl
-    (c.convert-answer.ensures b)
+    c.convert-answer.ensures.did
     (λ op s f d. c.close.ensures.acted b _ op out es s c.pairs_made-before.ensures f d)

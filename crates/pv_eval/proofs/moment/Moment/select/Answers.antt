@@ -11,5 +11,5 @@ returns-clause-acted c = λ b out es hs hf.
     (Selects c.args.offset (worth_of c.args.v)) (Selects c.args.offset (worth_of c.args.v)) c.args.line c.select-answer.result _ _ _ _ _ _ out es
     c.self.view_is hs hf c.new-told.ensures.items c.deref.ensures.value
     refl
-    (c.select-answer.ensures b)
+    c.select-answer.ensures.did
     (λ op s f d. c.close.ensures.acted b _ op out es s c.pairs_made-before.ensures f d)

@@ -12,5 +12,5 @@ returns-clause-tested c = λ b out es hs hf.
     (Tests (worth_of c.args.v)) (Tests (worth_of c.args.v)) c.args.line c.test-answer.result _ _ _ _ _ _ out es
     c.self.view_is hs hf c.new-told.ensures.items c.deref.ensures.value
     refl
-    (c.test-answer.ensures b)
+    (c.test-answer.ensures.did truth_int)
     (λ op s f d. c.close_test.ensures.tested b _ op out es s c.pairs_made-before.ensures f d)

@@ -3,12 +3,9 @@ use Rattle.std.specs.Prelude.{Bool, Option, false, nat_le, ℕ, ◌&&◌, ◌+�
 use Rattle.pv_inst.specs.declared.values.Instance.{Instance}
 use Rattle.pv_shadow.specs.declared.byte.Byte.{Byte}
 use Rattle.pv_inst.specs.Table.{Table}
-use Rattle.pv_eval.specs.Suiting.{knows, knows_value, is_integer}
+use Rattle.pv_world.specs.Suiting.{knows}
 use Rattle.std.specs.List.{list_all}
-use Rattle.pv_libc.specs.declared.values.Arg.{Arg}
 use Rattle.std.specs.Option.{option_map_or}
-use Rattle.pv_object.specs.declared.values.Value.{Value}
-use Rattle.pv_world.specs.Worlds.{Scalar as ScalarWorth}
 
 -- 6.2.4p2: a live instance has so many bytes from an offset on
 abbrev pub room_in : Option Instance → (offset n : ℕ) → Bool
@@ -17,11 +14,3 @@ room_in o offset n = option_map_or (λ (x : Instance). x.live && nat_le (offset 
 -- what the names in abstract bytes speak of was made (the memory model)
 abbrev pub knows_bytes : Table → List Byte → Bool
 knows_bytes T bytes = list_all (λ (x : Byte). knows T x.prov) bytes
-
--- what the names in arguments speak of was made (the memory model)
-abbrev pub knows_arguments : Table → List Arg → Bool
-knows_arguments T args = list_all (λ (x : Arg). knows_value T x.value) args
-
--- 6.8.4.2p1: an integer, if the value is there and was set
-abbrev pub is_integer_value : Value → Bool
-is_integer_value v = is_integer (ScalarWorth v)

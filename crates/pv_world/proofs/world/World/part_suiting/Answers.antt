@@ -3,7 +3,7 @@ use Rattle.pv_shadow.specs.declared.byte.Byte.{Byte}
 use Rattle.pv_world.specs.Telling.{quiet}
 use Rattle.pv_world.specs.Accesses.{worth_in}
 use Rattle.pv_world.specs.Coming.{Came, seen, worth_of}
-use Rattle.pv_world.proofs.world.World.part.Goals as goal
+use Rattle.pv_world.proofs.world.World.part_suiting.Goals as goal
 
 pub returns-in-Whole-clause-did : goal.returns-in-Whole-clause-did
 returns-in-Whole-clause-did c =

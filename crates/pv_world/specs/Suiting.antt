@@ -1,6 +1,6 @@
 -- What typing promises of the values that operations are made on (C17 6.3, 6.5, 6.7.9): the names in them were made, a number lies
--- within an integer type, a stored value is one of the type. A checked unit never comes to anything else.
-use Rattle.std.specs.Prelude.{ℕ, ◌+◌, ◌-◌, ◌^◌, ◌==◌, Bool, true, false, ◌&&◌, nat_le, nat_lt, pos, neg_ℤ, int_le, ℤ, length, Option, Some, None}
+-- within an integer type, a stored value is one of the type. A checked unit never comes to anything else: each operation looks by itself.
+use Rattle.std.specs.Prelude.{ℕ, ◌+◌, ◌-◌, ◌^◌, ◌==◌, Bool, true, false, ◌&&◌, nat_le, nat_lt, pos, neg_ℤ, int_le, ℤ, length, Option, Some, None, if◌then◌else◌}
 use Rattle.std.specs.List.{list_all}
 use Rattle.pv_num.specs.declared.kinds.IntKind.{IntKind}
 use Rattle.pv_num.specs.declared.operators.BinOp.{BinOp}
@@ -18,8 +18,14 @@ use Rattle.pv_object.specs.declared.values.Value.TheVariants.{Int as IntValue, U
 use Rattle.pv_world.specs.declared.got.Shape.{Shape}
 use Rattle.pv_world.specs.declared.got.Shape.TheVariants as shape
 use Rattle.pv_world.specs.Worlds.{Worth, Missing, Scalar as ScalarWorth, Whole, World}
-use Rattle.pv_world.specs.Worths.{int_of}
+use Rattle.pv_world.specs.Worths.{int_of, missing_value}
+use Rattle.pv_world.specs.Telling.{quiet}
+use Rattle.pv_world.specs.Doing.{Done, Fails}
 use Rattle.std.specs.Option.{option_map_or}
+
+-- 6.9.1p12: what an operation does whose operands suit; on others it ends the run as on a value that is missing
+abbrev pub where_suiting : Bool → (World → Done) → World → Done
+where_suiting suits works w = if suits then works w else Fails missing_value None w quiet
 
 -- what a name speaks of was made (the memory model: provenance)
 abbrev pub knows : Table → Prov → Bool
@@ -38,9 +44,21 @@ knows_worth T (ScalarWorth v) = knows_value T v
 knows_worth T (Whole bytes origin) = list_all (λ (x : Byte). knows T x.prov) bytes
 knows_worth T _ = true
 
+-- 6.5.6p3, 6.5.8p2, 6.5.9p2, 6.5.16p3: what the names in both of two operands speak of was made (the memory model)
+abbrev pub knows_both : Table → Worth → Worth → Bool
+knows_both T v x = knows_worth T v && knows_worth T x
+
 -- 6.2.5p17: a number is one of some integer type, or the difference of two addresses
 abbrev pub is_small : Worth → Bool
 is_small v = int_le (neg_ℤ (pos (2 ^ 64))) (int_of v) && int_le (int_of v) (pos (2 ^ 64))
+
+-- 6.3: the operand of a conversion
+abbrev pub is_convertible : Table → Worth → Bool
+is_convertible T v = is_small v && knows_worth T v
+
+-- 6.5.6p2: the operands of a sum of a pointer and an integer
+abbrev pub can_shift : Table → Worth → Worth → Bool
+can_shift T v x = (is_small v && is_small x) && knows_both T v x
 
 -- 6.8.4.2p1: what an expression gives is an integer, if it is there and was set
 abbrev pub is_integer : Worth → Bool
@@ -62,6 +80,14 @@ abbrev pub is_operand : BinOp → IntKind → ℤ → Bool
 is_operand Shl k n = is_count n
 is_operand Shr k n = is_count n
 is_operand op k n = fits_of k n
+
+-- 6.5.3.3p1: the operand of an operator that has one, or the left one of two: it is of the kind, which is promoted
+abbrev pub is_of_promoted : IntKind → Worth → Bool
+is_of_promoted k v = is_promoted k && fits_of k (int_of v)
+
+-- 6.5.5 to 6.5.12: the operands of an operator that has two
+abbrev pub are_operands : BinOp → IntKind → Worth → Worth → Bool
+are_operands op k v x = is_of_promoted k v && is_operand op k (int_of x)
 
 -- 5.2.4.1: no object is larger than this
 abbrev pub is_size : ℕ → Bool

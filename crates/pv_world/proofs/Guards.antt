@@ -1,6 +1,7 @@
--- The guards of operations tell what the calls of a world ask for.
-use Rattle.std.proofs.Common.{◌≡◌, ℕ, ◌+◌, ◌≤◌, Bool, true, false, cond, List, length, Some, None, refl, sym, IsSomeAnd, IsTrue, ◌↔◌}
-use Rattle.std.specs.Prelude.{Option, All, ◌&&◌, nat_le, is_some, int_le, ℤ, pos, neg_ℤ, ◌≤ℤ◌, ◌^◌, ◌-◌}
+-- The looks at operands tell what the calls of a world ask for, and an operation by its look: what it does, or the end of the run as by a
+-- missing value.
+use Rattle.std.proofs.Common.{◌≡◌, ℕ, ◌+◌, ◌++◌, ◌≤◌, Bool, true, false, cond, List, length, Some, None, refl, sym, ap, append-nil, IsSomeAnd, IsTrue, ◌↔◌}
+use Rattle.std.specs.Prelude.{Option, Result, Err, All, ◌&&◌, nat_le, is_some, int_le, ℤ, pos, neg_ℤ, ◌≤ℤ◌, ◌^◌, ◌-◌}
 use Rattle.std.specs.Int.Signed.{le_z_yes}
 use Rattle.std.proofs.lemmas.Float.{T_from_true}
 use Rattle.std.proofs.lemmas.Bool.{leb-true, le-leb, ltb-true}
@@ -24,15 +25,19 @@ use Rattle.pv_object.specs.declared.values.Value.{Value}
 use Rattle.pv_object.specs.declared.values.Value.TheVariants.{Int as IntValue, Unset, Pointer as PointerValue}
 use Rattle.pv_object.specs.Values.{IsOf}
 use Rattle.pv_object.specs.Answers.{IsMadeValue}
-use Rattle.pv_libc.specs.declared.values.Arg.{Arg}
 use Rattle.pv_world.specs.declared.got.Shape.{Shape}
 use Rattle.pv_world.specs.declared.got.Shape.TheVariants as shape
-use Rattle.pv_world.specs.Worlds.{Worth, Nothing, Missing, Scalar as ScalarWorth, Whole, World}
-use Rattle.pv_world.specs.Worths.{int_of}
+use Rattle.pv_watch.specs.declared.event.What.{What}
+use Rattle.pv_world.specs.declared.got.Failure.{Failure}
+use Rattle.pv_world.specs.Worlds.{Worth, Nothing, Missing, Scalar as ScalarWorth, Whole, World, Wrong}
+use Rattle.pv_world.specs.Telling.{quiet, fault_of, verdict_of}
+use Rattle.pv_world.specs.Doing.{Done, Fails}
+use Rattle.pv_world.specs.Worths.{int_of, missing_value}
 use Rattle.pv_world.specs.Preconditions.{IsSmall, HasRoom, HasPart, HasSizeOf, IsStored}
-use Rattle.pv_world.specs.Coming.{IsMadeWorth}
-use Rattle.pv_eval.specs.Suiting.{knows, knows_value, knows_worth, is_small, is_count, is_operand, is_of, is_stored, has_part, has_room, live_in}
-use Rattle.pv_eval.specs.SuitingParts.{room_in, knows_bytes, knows_arguments}
+use Rattle.pv_world.specs.Coming.{Did, Came, Faulted, Ended, seen, IsMadeWorth}
+use Rattle.pv_world.proofs.Comings.{came_fails}
+use Rattle.pv_world.specs.Suiting.{where_suiting, knows, knows_value, knows_worth, is_small, is_count, is_operand, is_of, is_stored, has_part, has_room, live_in}
+use Rattle.pv_world.specs.SuitingParts.{room_in, knows_bytes}
 
 pub left_of : (a b : Bool) → (a && b) ≡ true → a ≡ true
 left_of true b e = refl
@@ -71,16 +76,13 @@ made_knows T (Pair k) h = both_of (nat_le 1 k) (nat_le k (length T.pairs)) (le-l
 pub knows_is : (T : Table) (p : Prov) (r : Bool) → (IsTrue r ↔ IsMadeIn T p) → r ≡ knows T p
 knows_is T p r h = same_truth r (knows T p) (λ e. made_knows T p (h.0 e)) (λ e. h.1 (knows_made T p e))
 
-value_made : (T : Table) (v : Value) → knows_value T v ≡ true → IsMadeValue T v
+pub value_made : (T : Table) (v : Value) → knows_value T v ≡ true → IsMadeValue T v
 value_made T (PointerValue p) e = knows_made T p.prov e
 value_made T (IntValue n) e = tt
 value_made T Unset e = tt
 
 bytes_made : (T : Table) (bytes : List Byte) → knows_bytes T bytes ≡ true → All (λ (x : Byte). IsMadeIn T x.prov) bytes
 bytes_made T bytes e = λ k d l. knows_made T _ (AllPass-from_list_all (λ (x : Byte). knows T x.prov) bytes e k d l)
-
-pub arguments_made : (T : Table) (args : List Arg) → knows_arguments T args ≡ true → All (λ (x : Arg). IsMadeValue T x.value) args
-arguments_made T args e = λ k d l. value_made T _ (AllPass-from_list_all (λ (x : Arg). knows_value T x.value) args e k d l)
 
 pub worth_made : (T : Table) (v : Worth) → knows_worth T v ≡ true → IsMadeWorth T v
 worth_made T (ScalarWorth v) e = value_made T v e
@@ -178,3 +180,19 @@ pub room_is : (w : World) (i a n : ℕ) (r : Bool) → (r ≡ true → HasRoom w
 room_is w i a n r f g =
     let o = instance_at w.memory.table.instances i in
     same_truth r (has_room w i a n) (λ e. room_from o a n (f e)) (λ e. g (room_to o a n e))
+
+-- a fault that nothing is blamed for, where nothing was told before it
+pub failed : {A : Type 0} (give : A → Worth) (f : Failure) (y : Wrong) (w : World) (es fs : List What)
+    → Faulted f y fs (es ++ fault_of None (verdict_of y)) → Came give (Err f) w fs (seen es w (Fails y None w quiet))
+failed give f y w es fs h =
+    came_fails give f y w fs (es ++ fault_of None (verdict_of y)) (seen es w (Fails y None w quiet)) (ap (λ z. Ended y w (z ++ fault_of None (verdict_of y))) (append-nil es)) h
+
+-- an operation by its look, told of the answer that the look gives
+module _ {A : Type 0} (give : A → Worth) (works : World → Done) (w : World) where
+  pub suited : (c : Bool) (r : Result A Failure) (v : World) (es fs : List What) → c ≡ true → Did give works r w v es fs → Did give (where_suiting c works) r w v es fs
+  suited true r v es fs e h = h
+  suited false r v es fs e h = absurd cc
+
+  pub unsuited : (c : Bool) (f : Failure) (es fs : List What) → c ≡ false → Faulted f missing_value fs (es ++ fault_of None (verdict_of missing_value)) → Did give (where_suiting c works) (Err f) w w es fs
+  unsuited false f es fs e h = failed give f missing_value w es fs h
+  unsuited true f es fs e h = absurd cc

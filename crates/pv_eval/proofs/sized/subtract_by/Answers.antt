@@ -1,0 +1,25 @@
+use Rattle.std.proofs.Common.{sym, ◌∙◌, nat_le}
+use Rattle.std.specs.Prelude.{◌&&◌}
+use Rattle.pv_types.specs.Known.{tree}
+use Rattle.pv_world.specs.Pointers.{subtracts}
+use Rattle.pv_world.specs.Suiting.{knows_both}
+use Rattle.pv_world.specs.Coming.{worth_of}
+use Rattle.pv_eval.specs.Sizes.{element_in}
+use Rattle.pv_eval.proofs.Numbers.{kept}
+use Rattle.pv_eval.proofs.BySize.{by_size, by_none}
+use Rattle.pv_eval.proofs.sized.subtract_by.Goals as goal
+
+pub returns-in-Some : goal.returns-in-Some
+returns-in-Some c = λ b.
+    let v = worth_of c.args.v.now in
+    let x = worth_of c.args.x.now in
+    let n = element_in c.args.types.now (tree c.args.types.now c.args.t.0) in
+    by_size (λ m. subtracts m v x) (λ m. nat_le 1 m && knows_both c.args.world.now.memory.table v x) n c.in-Some.size _ _ _ _ _
+    (kept n c.in-Some.size (sym c.element_size.ensures ∙ c.in-Some.is)) c.subtract.ensures.did
+
+pub returns-in-None : goal.returns-in-None
+returns-in-None c = λ b.
+    let v = worth_of c.args.v.now in
+    let x = worth_of c.args.x.now in
+    by_none (λ m. subtracts m v x) (λ m. nat_le 1 m && knows_both c.args.world.now.memory.table v x) (element_in c.args.types.now (tree c.args.types.now c.args.t.0)) _ _ _ _
+    (sym c.element_size.ensures ∙ c.in-None.is) c.unfit.ensures
