@@ -53,6 +53,7 @@ pub(crate) fn character_in(
 }
 
 /// The pointer so many bytes further on.
+#[inline(always)]
 pub(crate) fn further(given: Given, i: u64) -> Given
     ensures { result ≡ further given i }
 {

@@ -25,6 +25,7 @@ const UNKNOWN: Digits = Digits {
 };
 
 /// The first of the characters that are known.
+#[inline(always)]
 fn first(known: Digits) -> u8
     ensures { result ≡ known.number % 256 }
 {
@@ -32,6 +33,7 @@ fn first(known: Digits) -> u8
 }
 
 /// All but the first.
+#[inline(always)]
 fn rest(known: Digits) -> Digits
     requires { 1 ≤ known.count }
     ensures { result ≡ record { number = known.number / 256; count = known.count - 1 } }
@@ -42,8 +44,23 @@ fn rest(known: Digits) -> Digits
     }
 }
 
-/// The characters from an address on: those that are known, or else as many of the next `left` as come before a multiple of 8,
-/// or the next one alone.
+/// As many of the next `left` characters from an address on as come before a multiple of 8, or the next one alone.
+fn looked_at(memory: &Memory, a: u64, left: u64) -> Option<Digits>
+    requires { 1 ≤ left }
+    ensures some { IfSome result (λ r. 1 ≤ r.count) }
+    ensures known { IfSome result (λ r. HasDigits memory.now.bytes a r.count r.number) }
+{
+    let count = left.min(8 - a % 8);
+    if let Some(number) = memory.digits(a, count) {
+        return Some(Digits { number, count });
+    }
+    // What stands behind the end of a string may have no value.
+    let number = memory.digits(a, 1)?;
+    Some(Digits { number, count: 1 })
+}
+
+/// The characters from an address on: those that are known, or else some of the next `left`, which are looked at.
+#[inline(always)]
 fn known_from(memory: &Memory, a: u64, left: u64, known: Digits) -> Option<Digits>
     requires some { 1 ≤ left }
     requires known { HasDigits memory.now.bytes a known.count known.number }
@@ -53,13 +70,7 @@ fn known_from(memory: &Memory, a: u64, left: u64, known: Digits) -> Option<Digit
     if 0 < known.count {
         return Some(known);
     }
-    let count = left.min(8 - a % 8);
-    if let Some(number) = memory.digits(a, count) {
-        return Some(Digits { number, count });
-    }
-    // What stands behind the end of a string may have no value.
-    let number = memory.digits(a, 1)?;
-    Some(Digits { number, count: 1 })
+    looked_at(memory, a, left)
 }
 
 /// How many bytes lie from a pointer on in the one live object that its name is.
@@ -93,6 +104,7 @@ struct Next {
 }
 
 /// The character so many bytes further on.
+#[inline(always)]
 fn step(memory: &Memory, given: Given, i: u64, few: u64, known: Digits) -> Option<Next>
     requires told { memory.now.table.pending ≡ [] }
     requires room { HasRoom memory.now.table given.pointer few }
