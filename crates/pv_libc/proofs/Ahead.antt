@@ -151,7 +151,7 @@ further_is g i number e h =
     λ j. record { pointer = record { address = m j; prov = e j }; stopped = g.stopped }
 
 -- a byte that has a value and no name
-nameless_there : (v : ℕ) (o : Option Byte) → IsSomeAnd o (IsNameless v) → IsNameless v (unwrap_or o blank)
+pub nameless_there : (v : ℕ) (o : Option Byte) → IsSomeAnd o (IsNameless v) → IsNameless v (unwrap_or o blank)
 nameless_there v None h = absurd h
 nameless_there v (Some b) h = h
 

@@ -7,6 +7,7 @@ pub mod Offering
 pub mod Putting
 pub mod Quiet
 pub mod Reaches
+pub mod Rows
 pub mod Running
 pub mod Steps
 pub mod Used

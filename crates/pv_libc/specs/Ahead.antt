@@ -1,5 +1,5 @@
 -- A bridge: characters that are plain: reading one leaves all as it was. What functions answer that read many of them at once.
-use Rattle.std.specs.Prelude.{◌≡◌, ℕ, ◌+◌, ◌<◌, ◌≤◌, ◌^◌, true, List, [], length, Some}
+use Rattle.std.specs.Prelude.{◌≡◌, ℕ, zero, suc, ℤ, ◌+◌, ◌/◌, ◌%◌, ◌==◌, ◌<◌, ◌≤◌, ◌^◌, true, List, [], length, Some, if◌then◌else◌}
 use Rattle.pv_prov.specs.declared.names.Prov.TheVariants.{Inst}
 use Rattle.pv_inst.specs.declared.values.Info.{Info}
 use Rattle.pv_inst.specs.Table.{Table, instance_at}
@@ -7,11 +7,14 @@ use Rattle.pv_inst.specs.Infos.{info_of}
 use Rattle.pv_inst.specs.Use.{holds}
 use Rattle.pv_object.specs.declared.values.Pointer.{Pointer}
 use Rattle.pv_object.specs.declared.values.Asker.{Asker}
+use Rattle.pv_object.specs.declared.values.Value.TheVariants as value
 use Rattle.pv_object.specs.Memory.{Mem}
 use Rattle.pv_libc.specs.declared.values.Note.{Note}
 use Rattle.pv_libc.specs.declared.values.Given.{Given}
 use Rattle.pv_libc.specs.declared.values.Reply.{Reply}
-use Rattle.pv_libc.specs.Steps.{with_notes, done}
+use Rattle.pv_libc.specs.declared.values.Reply.TheVariants as reply
+use Rattle.pv_libc.specs.Steps.{Now, Did, with_notes, done, next}
+use Rattle.pv_libc.specs.Blocks.{difference, sign_of}
 use Rattle.pv_libc.specs.Characters.{character_at, characters_from, string_at, most}
 use Rattle.pv_libc.specs.StringParts.{strcmp}
 
@@ -37,10 +40,25 @@ pub record IsPlainString (M : Mem) (g : Given) (text : List ℕ) : Type 0 where
   pub few : length text < most
   pub is : (by : Asker) (notes : List Note) → string_at by g (with_notes M notes) ≡ done text (with_notes M notes)
 
--- 7.24.1p3: the n characters from an address on are these, and reading them leaves all as it was
-abbrev pub ArePlain : Mem → (a n : ℕ) → List ℕ → Type 0
-ArePlain M a n row = (g : Given) (notes : List Note) → characters_from n g a [] (with_notes M notes) ≡ done row (with_notes M notes)
-
 -- 7.24.4.2p2, p3: the comparison of two strings replies this, and leaves all as it was
 abbrev pub ComparesPlainly : Mem → (p q : Given) → Reply → Type 0
 ComparesPlainly M p q reply = (notes : List Note) → strcmp p q (with_notes M notes) ≡ done reply (with_notes M notes)
+
+-- 7.24.4p1: the sign of two characters that differ, or else what the rest answers
+abbrev pub sign_or : (a b : ℕ) → ℤ → ℤ
+sign_or a b rest = if a == b then rest else sign_of a b
+
+-- 7.24.4p1: the same of the first of n digits to the base 256, the least significant first, in which two numbers differ
+abbrev pub digits_or : (n x y : ℕ) → ℤ → ℤ
+digits_or zero x y rest = rest
+digits_or (suc n) x y rest = sign_or (x % 256) (y % 256) (digits_or n (x / 256) (y / 256) rest)
+
+-- 7.24.4.1p2, p3: n characters are read from each of two addresses on, and compared
+abbrev pub rows_compared : Given → Given → (a b n : ℕ) → Now → Did Reply
+rows_compared p q a b n S =
+    next (characters_from n p a [] S) (λ ls T.
+    next (characters_from n q b [] T) (λ rs U. done (reply.Value (value.Int (difference ls rs))) U))
+
+-- 7.24.4.1p3: the comparison of the n characters from each of two addresses on replies this, and leaves all as it was
+abbrev pub DiffersPlainly : Mem → (a b n : ℕ) → Reply → Type 0
+DiffersPlainly M a b n reply = (p q : Given) (notes : List Note) → rows_compared p q a b n (with_notes M notes) ≡ done reply (with_notes M notes)

@@ -12,7 +12,7 @@ ghost use Rattle.pv_libc.specs.Steps.{with_notes};
 ghost use Rattle.pv_libc.specs.Answers.{OrNoMemory, worth};
 
 use crate::characters::character_in;
-use crate::known::plain_characters;
+use crate::known::plain_difference;
 use crate::notes::reached;
 use crate::strings::sign_of;
 use crate::values::{Given, Note, Reply};
@@ -151,29 +151,8 @@ pub(crate) fn put(memory: &mut Memory, at: &Reach, text: &[u8])
 }
 
 /// `n` characters in a row, at a place that was reached.
-#[tactic(auto, using(crate::proofs::Reaches::reach_bound, pv_object::proofs::Later::later_itself))]
-fn characters(
-    alloc: Global,
-    memory: &mut Memory,
-    notes: &mut Vec<Note>,
-    given: Given,
-    at: &Reach,
-    n: u64,
-) -> Result<Vec<u8>, Stop>
-    requires { IsReach memory.old.table at.now n }
-    ensures answer { OrNoMemory (worth (λ v. v.items) result) (with_notes memory.new notes.new.items) (characters_from n given at.now.address [] (with_notes memory.old notes.old.items)) }
-    ensures later { IsLater memory.old.table memory.new.table }
-{
-    memory.instances().well_formed();
-    match plain_characters(alloc, memory, at.address, n) {
-        Some(row) => Ok(row),
-        None => characters_singly(alloc, memory, notes, given, at, n),
-    }
-}
-
-/// The same, read one by one.
 #[tactic(auto, using(crate::proofs::Reaches::reach_within, pv_object::proofs::Later::later_itself))]
-fn characters_singly(
+fn characters(
     alloc: Global,
     memory: &mut Memory,
     notes: &mut Vec<Note>,
@@ -237,6 +216,10 @@ pub(crate) fn memcmp(
         Ok(right) => right,
         Err(stop) => return Err(stop),
     };
+    memory.instances().well_formed();
+    if let Some(reply) = plain_difference(memory, left.address, right.address, n) {
+        return Ok(reply);
+    }
     let first = match characters(alloc, memory, notes, p, &left, n) {
         Ok(first) => first,
         Err(stop) => return Err(stop),

@@ -1,8 +1,8 @@
 // Characters that are read many at once: those in the one live object that a pointer's name is, whose bytes have values and
 // no names, so that reading each leaves all as it was. `None` says nothing, and nothing has happened: then they are read one by one.
-ghost use Rattle.std.specs.Prelude.{◌≡◌, [], ◌+◌, ◌-◌, ◌/◌, ◌%◌, ◌<◌, ◌≤◌, ◌^◌, IfSome};
+ghost use Rattle.std.specs.Prelude.{◌≡◌, ℤ, [], ◌+◌, ◌-◌, ◌/◌, ◌%◌, ◌<◌, ◌≤◌, ◌^◌, IfSome};
 ghost use Rattle.pv_shadow.specs.Readings.{HasDigits};
-ghost use Rattle.pv_libc.specs.Ahead.{HasRoom, GivesAt, IsPlainString, ArePlain, ComparesPlainly};
+ghost use Rattle.pv_libc.specs.Ahead.{HasRoom, GivesAt, IsPlainString, ComparesPlainly, DiffersPlainly, sign_or, digits_or};
 
 use crate::characters::{further, most};
 use crate::strings::sign_of;
@@ -145,26 +145,6 @@ pub(crate) fn plain_string(alloc: Global, memory: &Memory, given: Given) -> Opti
     None
 }
 
-/// So many characters in a row from an address on.
-pub(crate) fn plain_characters(alloc: Global, memory: &Memory, a: u64, n: u64) -> Option<Vec<u8>>
-    requires { a + n ≤ 2 ^ 47 }
-    ensures { IfSome result (λ v. ArePlain memory.now a n v.items) }
-{
-    if !memory.is_told() {
-        return None;
-    }
-    let mut read = Vec::new(alloc);
-    let mut known = UNKNOWN;
-    for i in 0..n {
-        let here = known_from(memory, a + i, n - i, known)?;
-        if read.push(first(here)).is_err() {
-            return None;
-        }
-        known = rest(here);
-    }
-    Some(read)
-}
-
 /// What a comparison of two strings replies (7.24.4.2).
 pub(crate) fn plain_comparison(memory: &Memory, p: Given, q: Given) -> Option<Reply>
     ensures { IfSome result (ComparesPlainly memory.now p q) }
@@ -191,4 +171,88 @@ pub(crate) fn plain_comparison(memory: &Memory, p: Given, q: Given) -> Option<Re
         right = other.behind;
     }
     None
+}
+
+/// A character of each of two rows, at the same place in both.
+#[derive(Clone, Copy)]
+struct Compared {
+    left: u8,
+    right: u8,
+}
+
+/// Nothing is compared yet, so nothing differs.
+const EQUAL: Compared = Compared { left: 0, right: 0 };
+
+/// Of two places that were compared the one that decides: the first, unless its characters are equal (7.24.4p1).
+#[inline(always)]
+fn deciding(before: Compared, next: Compared) -> Compared
+    ensures { (rest : ℤ) → sign_or result.left result.right rest ≡ sign_or before.left before.right (sign_or next.left next.right rest) }
+{
+    let a = before.left;
+    let b = before.right;
+    if a != b {
+        return before;
+    }
+    next
+}
+
+/// The same of a place and the places behind it: n digits of two numbers to the base 256, the least significant first.
+fn deciding_digits(before: Compared, x: u64, y: u64, n: u64) -> Compared
+    ensures { (rest : ℤ) → sign_or result.left result.right rest ≡ sign_or before.left before.right (digits_or n x y rest) }
+{
+    let mut decided = before;
+    let mut left = x;
+    let mut right = y;
+    for i in 0..n {
+        let _ = i;
+        let a = (left % 256) as u8;
+        let b = (right % 256) as u8;
+        decided = deciding(decided, Compared { left: a, right: b });
+        left /= 256;
+        right /= 256;
+    }
+    decided
+}
+
+/// The same, which is quick where the numbers are equal.
+#[inline(always)]
+fn deciding_number(before: Compared, x: u64, y: u64, n: u64) -> Compared
+    ensures { (rest : ℤ) → sign_or result.left result.right rest ≡ sign_or before.left before.right (digits_or n x y rest) }
+{
+    if x == y {
+        return before;
+    }
+    deciding_digits(before, x, y, n)
+}
+
+/// How many of the next `left` characters from two addresses on come before a multiple of 8 in both rows.
+#[inline(always)]
+fn in_both(a: u64, b: u64, left: u64) -> u64
+    requires { 1 ≤ left }
+    ensures eight { result ≤ 8 }
+    ensures few { result ≤ left }
+    ensures some { 1 ≤ result }
+{
+    left.min(8 - a % 8).min(8 - b % 8)
+}
+
+/// What a comparison of two rows of n characters replies (7.24.4.1). All of them are looked at, also behind a difference.
+pub(crate) fn plain_difference(memory: &Memory, a: u64, b: u64, n: u64) -> Option<Reply>
+    requires left { a + n ≤ 2 ^ 47 }
+    requires right { b + n ≤ 2 ^ 47 }
+    ensures { IfSome result (DiffersPlainly memory.now a b n) }
+{
+    if !memory.is_told() {
+        return None;
+    }
+    let mut decided = EQUAL;
+    let mut i = 0;
+    while i < n {
+        let few = in_both(a + i, b + i, n - i);
+        let x = memory.digits(a + i, few)?;
+        let y = memory.digits(b + i, few)?;
+        decided = deciding_number(decided, x, y, few);
+        i += few;
+    }
+    Some(sign_of(decided.left, decided.right))
 }

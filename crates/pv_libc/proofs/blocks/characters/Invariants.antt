@@ -3,7 +3,7 @@ use Rattle.pv_object.specs.Reaching.{IsReach}
 use Rattle.pv_object.specs.Later.{IsLater}
 use Rattle.pv_libc.specs.Steps.{with_notes}
 use Rattle.pv_libc.specs.Characters.{characters_from}
-use Rattle.pv_libc.proofs.blocks.characters_singly.Given as goal
+use Rattle.pv_libc.proofs.blocks.characters.Given as goal
 
 -- the characters that are left, behind those read, do what all do
 abbrev pub invariant-loop-i : goal.invariant-loop-i
