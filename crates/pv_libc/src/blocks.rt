@@ -1,6 +1,7 @@
 // Functions on ranges of bytes (7.24.2.1, 7.24.2.2, 7.24.4.1, 7.24.6.1).
-ghost use Rattle.std.specs.Prelude.{◌≡◌, ◌+◌, [], ◌∷◌, ◌≤◌, ◌++◌, map, length};
+ghost use Rattle.std.specs.Prelude.{◌≡◌, ◌+◌, [], ◌∷◌, ◌<◌, ◌≤◌, ◌^◌, ◌++◌, map, length};
 ghost use Rattle.pv_inst.specs.Table.{IsMadeIn};
+ghost use Rattle.pv_shadow.specs.Whole.{little_endian};
 ghost use Rattle.pv_object.specs.Reaching.{IsReach};
 ghost use Rattle.pv_object.specs.Later.{IsLater};
 ghost use Rattle.pv_object.specs.Copying.{with_bytes};
@@ -17,7 +18,8 @@ use crate::notes::reached;
 use crate::strings::sign_of;
 use crate::values::{Given, Note, Reply};
 use pv_fault::{Clause, Reason};
-use pv_object::{Asker, Memory, Reach, Stop, Value, undefined};
+use pv_num::IntKind;
+use pv_object::{Asker, Memory, Reach, Scalar, Stop, Value, undefined};
 use pv_prov::Prov;
 use pv_shadow::Byte;
 use std::alloc::Global;
@@ -119,14 +121,37 @@ pub(crate) fn memset(
     }
 }
 
-/// Makes the bytes at a place that was reached those of eight characters at most.
+/// The number of four characters, the least significant first, as this target stores it (6.2.6.1p2).
+fn number_of_four(a: u8, b: u8, c: u8, d: u8) -> u64
+    ensures digits { little_endian 4 result ≡ a ∷ b ∷ c ∷ d ∷ [] }
+    ensures fits { result < 2 ^ 32 }
+{
+    let high = u64::from(c) + 256 * u64::from(d);
+    u64::from(a) + 256 * u64::from(b) + 65536 * high
+}
+
+/// Makes the bytes at a place that was reached those of four characters, which are stored as one number.
+fn put_four(memory: &mut Memory, at: &Reach, text: &[u8])
+    requires four { length text.now ≡ 4 }
+    requires reached { IsReach memory.old.table at.now 4 }
+    ensures { memory.new ≡ with_bytes memory.old at.now.address (map plain_byte text.now) }
+{
+    let number = number_of_four(text[0], text[1], text[2], text[3]);
+    let value = Value::Int(number as i128);
+    memory.store(at, Scalar::Int(IntKind::UInt), &value, None);
+}
+
+/// Makes the bytes at a place that was reached those of four characters at most.
 #[tactic(auto, using(crate::proofs::Putting::row_made))]
 fn put_few(memory: &mut Memory, at: &Reach, text: &[u8])
-    requires few { length text.now ≤ 8 }
+    requires few { length text.now ≤ 4 }
     requires reached { IsReach memory.old.table at.now (length text.now) }
     ensures { memory.new ≡ with_bytes memory.old at.now.address (map plain_byte text.now) }
 {
-    let mut bytes = [plain_byte(0); 8];
+    if text.len() == 4 {
+        return put_four(memory, at, text);
+    }
+    let mut bytes = [plain_byte(0); 4];
     for i in 0..text.len() {
         bytes[i] = plain_byte(text[i]);
     }
@@ -141,8 +166,8 @@ pub(crate) fn put(memory: &mut Memory, at: &Reach, text: &[u8])
 {
     let mut i = 0;
     while i < text.len() {
-        let few = (text.len() - i).min(8);
         let place = within(memory, at, i as u64);
+        let few = (text.len() - i).min(4 - (place.address % 4) as usize);
         put_few(memory, &place, &text[i..i + few]);
         i += few;
     }
