@@ -12,7 +12,7 @@ statements-init g c = record {
   later = omega arith;
   fit = c.requires.fit;
   runs = runs-first-of-all c.args.unit.now c.args.doing _ c.args.machine.now.started c.new-tasks.ensures.items c.requires.runs;
-  asked = c.requires.asked;
+  due = c.requires.asked;
 }
 
 pub advance-requires-clause-runs : goal.advance-requires-clause-runs
@@ -22,7 +22,7 @@ pub advance-requires-clause-fit : goal.advance-requires-clause-fit
 advance-requires-clause-fit g c = fit-delivered c.args.unit.now c.statements.machine c.deliver.new.machine c.in-Ok.ensures.delivered c.statements.invariant.fit
 
 pub advance-requires-clause-asked : goal.advance-requires-clause-asked
-advance-requires-clause-asked g c = asked-delivered c.statements.doing c.statements.machine c.deliver.new.machine c.in-Ok.ensures.delivered c.statements.invariant.asked
+advance-requires-clause-asked g c = asked-delivered c.statements.doing c.statements.machine c.deliver.new.machine c.in-Ok.ensures.delivered c.statements.invariant.due
 
 pub statements-preserved : goal.statements-preserved
 statements-preserved g c =
@@ -32,7 +32,7 @@ statements-preserved g c =
     let m2 = c.deliver.new.machine in
     let m3 = c.advance.new.machine in
     let inv = c.statements.invariant in
-    let out = streaming-delivered u c.args.bound c.statements.written c.deliver.new.written m1.moment.taken c.args.doing c.statements.doing c.statements.tasks.items m0 m1 m2 inv.runs inv.asked inv.streamed c.in-Ok.ensures.delivered in
+    let out = streaming-delivered u c.args.bound c.statements.written c.deliver.new.written m1.moment.taken c.args.doing c.statements.doing c.statements.tasks.items m0 m1 m2 inv.runs inv.due inv.streamed c.in-Ok.ensures.delivered in
     let on = c.in-Ok-On.field-0-is in
     let holds = subst (λ (a : After). AdvancedLed u c.args.bound c.statements.doing (Ok a) c.statements.tasks.items c.advance.new.tasks.items m2 m3) on c.in-Ok-On.ensures.holds in
     let runs = subst (λ (a : After). AdvancedRuns u c.advance.new.tasks.items m3.started (Ok a)) on c.in-Ok-On.ensures.runs in
@@ -42,7 +42,7 @@ statements-preserved g c =
       later = omega (arith, inv.later, c.deliver.ensures.cause.later);
       fit = runs.1;
       runs = runs.0;
-      asked = runs.2;
+      due = runs.2;
     }
 
 pub statements-smaller : goal.statements-smaller
@@ -59,7 +59,7 @@ returns-in-Ok-Last-clause-ended g c =
     let m2 = c.deliver.new.machine in
     let m3 = c.advance.new.machine in
     let inv = c.statements.invariant in
-    let out = streaming-delivered u c.args.bound c.statements.written c.deliver.new.written m1.moment.taken c.args.doing c.statements.doing c.statements.tasks.items m0 m1 m2 inv.runs inv.asked inv.streamed c.in-Ok.ensures.delivered in
+    let out = streaming-delivered u c.args.bound c.statements.written c.deliver.new.written m1.moment.taken c.args.doing c.statements.doing c.statements.tasks.items m0 m1 m2 inv.runs inv.due inv.streamed c.in-Ok.ensures.delivered in
     let holds = subst (λ (a : After). AdvancedLed u c.args.bound c.statements.doing (Ok a) c.statements.tasks.items c.advance.new.tasks.items m2 m3) c.in-Ok-Last.field-0-is c.in-Ok-Last.ensures.holds in
     led-last u c.args.bound c.deliver.new.written c.args.doing c.statements.doing c.in-Ok-Last.last c.statements.tasks.items c.advance.new.tasks.items m0 m2 m3 out holds c.advance.ensures.cut c.advance.ensures.setting
 
@@ -70,7 +70,7 @@ returns-in-Err-advance-clause-ended g c =
     let m1 = c.statements.machine in
     let m2 = c.deliver.new.machine in
     let inv = c.statements.invariant in
-    let out = streaming-delivered u c.args.bound c.statements.written c.deliver.new.written m1.moment.taken c.args.doing c.statements.doing c.statements.tasks.items m0 m1 m2 inv.runs inv.asked inv.streamed c.in-Ok.ensures.delivered in
+    let out = streaming-delivered u c.args.bound c.statements.written c.deliver.new.written m1.moment.taken c.args.doing c.statements.doing c.statements.tasks.items m0 m1 m2 inv.runs inv.due inv.streamed c.in-Ok.ensures.delivered in
     led-broken u c.args.bound c.deliver.new.written c.args.doing c.statements.doing c.in-Err-advance.e c.statements.tasks.items c.advance.new.tasks.items m0 m2 c.advance.new.machine out c.in-Err-advance.ensures.holds c.advance.ensures.cut
 
 pub returns-in-Err-advance-clause-cause : goal.returns-in-Err-advance-clause-cause
@@ -81,4 +81,4 @@ pub returns-in-Err-clause-ended : goal.returns-in-Err-clause-ended
 returns-in-Err-clause-ended g c =
     let m1 = c.statements.machine in
     let inv = c.statements.invariant in
-    led-undelivered _ _ _ c.args.unit.now c.args.bound c.statements.written c.deliver.new.written c.args.doing c.statements.doing c.statements.tasks.items c.args.machine.now m1 c.deliver.new.machine c.in-Err.e inv.runs inv.asked inv.streamed c.in-Err.ensures.delivered
+    led-undelivered _ _ _ c.args.unit.now c.args.bound c.statements.written c.deliver.new.written c.args.doing c.statements.doing c.statements.tasks.items c.args.machine.now m1 c.deliver.new.machine c.in-Err.e inv.runs inv.due inv.streamed c.in-Err.ensures.delivered

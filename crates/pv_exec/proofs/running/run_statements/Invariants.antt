@@ -12,7 +12,7 @@ invariant-statements g l = record {
   later : g.O.Sink.faults l.fn.out ≤ g.O.Sink.faults l.out;
   fit : Fit l.unit l.machine.started;
   runs : Runs l.unit l.tasks.items l.machine.started l.doing;
-  asked : asked l.machine.started l.doing ≡ 1;
+  due : asked l.machine.started l.doing ≡ 1;
 }
 
 abbrev pub decreases-statements : goal.decreases-statements
