@@ -24,8 +24,8 @@ abbrev pub is_word : List ℕ → Bool
 is_word text = nat_lt 0 (length text) && list_all (λ b. nat_le 33 b && nat_le b 126) text
 
 -- docs/FORMATS.md, Suites: `-` stands for no file (7.21.3p8)
-abbrev pub named : List ℕ → Option (List ℕ)
-named text = if bytes_eq text (codes "-") then None else Some text
+abbrev pub file_named : List ℕ → Option (List ℕ)
+file_named text = if bytes_eq text (codes "-") then None else Some text
 
 -- docs/FORMATS.md, Words (5.1.2.3p1): as many turns may be asked for
 abbrev pub most_turns : ℕ
@@ -47,14 +47,14 @@ abbrev pub is_space : ℕ → Bool
 is_space b = b == 32
 
 -- docs/FORMATS.md, Suites: a line is cut at its first space (5.2.1p3), if it has one
-abbrev pub cut : List ℕ → Option Cut
-cut line = option_map (λ (at : ℕ). record { word = take at line; rest = drop (at + 1) line }) (position is_space line)
+abbrev pub cut_of : List ℕ → Option Cut
+cut_of line = option_map (λ (at : ℕ). record { word = take at line; rest = drop (at + 1) line }) (position is_space line)
 
 -- docs/FORMATS.md, Suites: what SOURCE, SCRIPT, OUTPUT, BOUND and EXPECTED say (5.1.2.3): three words, a bound, and at least one byte more
 abbrev pub case_by : (source script output bound expected : List ℕ) → Option SuiteCase
 case_by source script output bound expected =
     if is_word source && is_word script && is_word output && nat_lt 0 (length expected)
-    then option_map (λ n. record { source = source; script = named script; output = named output; bound = n; expected = expected }) (bound_in bound)
+    then option_map (λ n. record { source = source; script = file_named script; output = file_named output; bound = n; expected = expected }) (bound_in bound)
     else None
 
 -- docs/FORMATS.md, Suites: first the one, and where it is there, the other on what it gave (5.1.2.3)
@@ -65,10 +65,10 @@ o >>= f = option_and_then f o
 -- docs/FORMATS.md, Suites: they stand in this order, with one space between two (5.2.1p3); EXPECTED goes on to the end of the line
 abbrev pub case_in : List ℕ → Option SuiteCase
 case_in line = do
-  a ← cut line
-  b ← cut a.rest
-  c ← cut b.rest
-  d ← cut c.rest
+  a ← cut_of line
+  b ← cut_of a.rest
+  c ← cut_of b.rest
+  d ← cut_of c.rest
   case_by a.word b.word c.word d.word d.rest
 
 -- ---- lists

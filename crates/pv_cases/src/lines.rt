@@ -19,7 +19,7 @@ pub(crate) struct Parted<'a> {
 
 // Cuts a line at its first space, if it has one.
 pub(crate) fn cut(line: &[u8]) -> Option<Parted<'_>>
-    ensures { option_map cut_view result ≡ specified.cut line.now }
+    ensures { option_map cut_view result ≡ specified.cut_of line.now }
 {
     let Some(at) = first_space(line) else {
         return None;
@@ -66,7 +66,7 @@ fn are_plain(bytes: &[u8]) -> bool
 
 // The name of a file; `-` is none.
 pub(crate) fn named(word: &str) -> Option<&str>
-    ensures { option_map (λ s. s.now) result ≡ specified.named word.now }
+    ensures { option_map (λ s. s.now) result ≡ specified.file_named word.now }
 {
     if word == "-" { None } else { Some(word) }
 }

@@ -3,7 +3,7 @@ use Rattle.std.proofs.Common.{◌≡◌, Bool, true, ◌&&◌, ◌||◌, refl}
 use Rattle.std.specs.Prelude.{if◌then◌else◌, is_some}
 use Rattle.pv_types.specs.Ty.{Ty, IntTy}
 use Rattle.pv_check.specs.Sorts.{is_truth_kind}
-use Rattle.pv_types.specs.Sorts.{kind_in, kind_of, pointed_in, is_scalar_in, is_void_in, bare}
+use Rattle.pv_types.specs.Sorts.{kind_in, kind_of, pointed_in, is_scalar_in, is_void_in, bare_type}
 use Rattle.pv_check.specs.SortParts.{is_function_if}
 use Rattle.pv_check.specs.Unary.{may_cast}
 
@@ -20,4 +20,4 @@ integers_permitted (IntTy k) _ h j null = absurd cc
 integers_permitted _ _ h j null = absurd cc
 
 pub integers_cast : (t u : Ty) → is_some (kind_of t) ≡ true → is_some (kind_of u) ≡ true → (null : Bool) → may_cast t u null ≡ true
-integers_cast t u h j null = integers_permitted (bare t) (bare u) h j null
+integers_cast t u h j null = integers_permitted (bare_type t) (bare_type u) h j null

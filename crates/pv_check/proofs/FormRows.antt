@@ -12,11 +12,11 @@ use Rattle.pv_check.specs.declared.derivations.Step.TheVariants.{Pointer, Array}
 use Rattle.pv_check.specs.declared.forms.Form.TheVariants as form
 use Rattle.pv_check.specs.Declarators.{steps_shown, StepsKnown}
 use Rattle.pv_check.specs.Derivations.{ByArray, Steps as WholeSteps, with_step, may_be_variadic}
-use Rattle.pv_check.specs.Forms.{form_steps, pointed}
+use Rattle.pv_check.specs.Forms.{form_steps, with_pointer}
 use Rattle.pv_check.specs.Open.{Goes}
 use Rattle.pv_check.specs.RowParts.{by_array, by_function}
 use Rattle.pv_check.specs.State.{State, After}
-use Rattle.pv_check.specs.Scopes.{entered}
+use Rattle.pv_check.specs.Scopes.{in_new_scope}
 use Rattle.pv_typed.specs.Constants.{and_then}
 use Rattle.pv_check.specs.Typing.{steps, optional_steps, array_size, parameters}
 use Rattle.pv_check.proofs.DeclaratorRows.{given, shown_kept, shown_more}
@@ -31,7 +31,7 @@ abbrev pub sized : OptionalTree → After WholeSteps → Option (After WholeStep
 sized size a = and_then (array_size size a.state) (by_array a.value)
 
 abbrev pub listed : Trees → Bool → After WholeSteps → Option (After WholeSteps)
-listed ps v a = and_then (parameters ps (entered a.state)) (by_function v a.value)
+listed ps v a = and_then (parameters ps (in_new_scope a.state)) (by_function v a.value)
 
 pub function_form : (f : Forest) (line : ℕ) (d : NodeId) (l : ListId) (v : Bool) (s : State) → is_declarator (tree_at f d) ≡ true → true ≡ may_be_variadic v (declarator_at f d) s
     → form_steps f (form.Function (Some d) l v) s ≡ steps (FunctionDeclarator line (declarator_at f d) (trees_at f l) v) s
@@ -58,10 +58,10 @@ none_within o s k e = ap (λ (x : Option (After WholeSteps)). and_then x k) e
 
 pub pointer_form : (m : Known) (after before : State) (x r : Steps) (constant : Bool) (o : OptionalTree)
     → given (steps_shown m x) after ≡ optional_steps o before → r.list.items ≡ x.list.items ++ (Pointer constant ∷ []) → r.signature ≡ x.signature
-    → given (steps_shown m r) after ≡ and_then (optional_steps o before) (pointed constant)
+    → given (steps_shown m r) after ≡ and_then (optional_steps o before) (with_pointer constant)
 pointer_form m after before x r constant o h e same =
     ap (λ (y : WholeSteps). given y after) (shown_more m x r (Pointer constant) e same)
-    ∙ ap (λ (y : Option (After WholeSteps)). and_then y (pointed constant)) h
+    ∙ ap (λ (y : Option (After WholeSteps)). and_then y (with_pointer constant)) h
 
 pub no_size : (x : WholeSteps) (middle before : State) (o size : OptionalTree) → given x middle ≡ optional_steps o before → None ≡ array_size size middle
     → None ≡ and_then (optional_steps o before) (sized size)
@@ -78,5 +78,5 @@ array_form a b last middle before x r n o size g known h k e same =
     ∙ ap (λ (y : Option (After WholeSteps)). and_then y (sized size)) h
 
 pub function_behind : (ps : Trees) (v : Bool) (x : WholeSteps) (z before : State) (o : OptionalTree) → given x z ≡ optional_steps o before
-    → and_then (parameters ps (entered z)) (by_function v x) ≡ and_then (optional_steps o before) (listed ps v)
+    → and_then (parameters ps (in_new_scope z)) (by_function v x) ≡ and_then (optional_steps o before) (listed ps v)
 function_behind ps v x z before o e = ap (λ (y : Option (After WholeSteps)). and_then y (listed ps v)) e

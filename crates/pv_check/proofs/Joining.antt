@@ -8,7 +8,7 @@ use Rattle.pv_types.specs.Adjusted.{is_adjusted}
 use Rattle.pv_types.specs.Formed.{are_adjusted, AllBelow}
 use Rattle.pv_types.specs.Known.{Known, tree, trees, tys_in, env}
 use Rattle.pv_types.specs.Layouts.{Entry, layout_in, is_complete_in}
-use Rattle.pv_check.specs.Composite.{composite, composites}
+use Rattle.pv_check.specs.Composite.{composite_of, composites}
 use Rattle.std.specs.Option.{option_or}
 use Rattle.pv_check.specs.Growing.{HasMore, AreSized, is_sized, Grows}
 use Rattle.pv_types.specs.Matching.{Matches, MatchAll}
@@ -22,7 +22,7 @@ same_known (Some n) = refl
 same_known None = refl
 
 mutual
-  pub composite_itself : (t : Ty) → composite t t ≡ t
+  pub composite_itself : (t : Ty) → composite_of t t ≡ t
   composite_itself VoidTy = refl
   composite_itself (IntTy k) = refl
   composite_itself (PointerTo t) = ap PointerTo (composite_itself t)
@@ -36,12 +36,12 @@ mutual
   composites_itself NoTys = refl
   composites_itself (MoreTys t ts) = ap (λ (x : Ty). MoreTys x (composites ts ts)) (composite_itself t) ∙ ap (MoreTys t) (composites_itself ts)
 
-pub composite_same : (m : Known) (a b : ℕ) → a ≡ b → tree m a ≡ composite (tree m a) (tree m b)
-composite_same m a b e = sym (ap (λ i. composite (tree m a) (tree m i)) (sym e) ∙ composite_itself (tree m a))
+pub composite_same : (m : Known) (a b : ℕ) → a ≡ b → tree m a ≡ composite_of (tree m a) (tree m b)
+composite_same m a b e = sym (ap (λ i. composite_of (tree m a) (tree m i)) (sym e) ∙ composite_itself (tree m a))
 
 -- ---- a parameter's type
 
-adjusted_composite : (t u : Ty) → is_adjusted t ≡ true → is_adjusted (composite t u) ≡ true
+adjusted_composite : (t u : Ty) → is_adjusted t ≡ true → is_adjusted (composite_of t u) ≡ true
 adjusted_composite (PointerTo t) (PointerTo u) h = refl
 adjusted_composite (ArrayOf t m) (ArrayOf u n) h = absurd cc
 adjusted_composite (FunctionTy t ts v) (FunctionTy u us w) h = absurd cc
@@ -56,7 +56,7 @@ adjusted_composites (MoreTys t ts) (MoreTys u us) h =
 
 -- ---- an array that is as types have to be
 
-complete_composite : (env : List Entry) (t u : Ty) → is_complete_in env t ≡ true → is_complete_in env (composite t u) ≡ true
+complete_composite : (env : List Entry) (t u : Ty) → is_complete_in env t ≡ true → is_complete_in env (composite_of t u) ≡ true
 complete_composite env (PointerTo t) (PointerTo u) h = refl
 complete_composite env (ArrayOf t (Some n)) (ArrayOf u m) h =
     both_true (left_true (nat_lt 0 n) _ h) (complete_composite env t u (right_true (nat_lt 0 n) _ h))
@@ -65,7 +65,7 @@ complete_composite env (FunctionTy t ts v) (FunctionTy u us w) h = absurd cc
 complete_composite env (ConstOf t) (ConstOf u) h = complete_composite env t u h
 complete_composite env t u h = h
 
-size_composite : (env : List Entry) (t u : Ty) → is_complete_in env t ≡ true → (layout_in env (composite t u)).size ≡ (layout_in env t).size
+size_composite : (env : List Entry) (t u : Ty) → is_complete_in env t ≡ true → (layout_in env (composite_of t u)).size ≡ (layout_in env t).size
 size_composite env (PointerTo t) (PointerTo u) h = refl
 size_composite env (ArrayOf t (Some n)) (ArrayOf u m) h = ap (λ s. n * s) (size_composite env t u (right_true (nat_lt 0 n) _ h))
 size_composite env (ArrayOf t None) (ArrayOf u m) h = absurd cc
@@ -75,14 +75,14 @@ size_composite env t u h = refl
 
 joined_size : (env : List Entry) (t u : Ty) (m n : Option ℕ) → Matches t u → is_complete_in env t ≡ true → is_complete_in env u ≡ true
     → nat_le (layout_in env (ArrayOf t m)).size (2 ^ 32) ≡ true → nat_le (layout_in env (ArrayOf u n)).size (2 ^ 32) ≡ true
-    → nat_le (layout_in env (ArrayOf (composite t u) (option_or m n))).size (2 ^ 32) ≡ true
+    → nat_le (layout_in env (ArrayOf (composite_of t u) (option_or m n))).size (2 ^ 32) ≡ true
 joined_size env t u (Some m) n h a b p q = ap (λ s. nat_le (m * s) (2 ^ 32)) (size_composite env t u a) ∙ p
 joined_size env t u None (Some n) h a b p q =
     ap (λ s. nat_le (n * s) (2 ^ 32)) (size_composite env t u a ∙ matching_size env t u h a b) ∙ q
 joined_size env t u None None h a b p q = p
 
 pub sized_joined : (k : Known) (a b r : ℕ) (t u : Ty) (m n : Option ℕ) → AreSized k → a < length k.terms → b < length k.terms → r < length k.terms → Matches t u
-    → tree k a ≡ ArrayOf t m → tree k b ≡ ArrayOf u n → tree k r ≡ composite t u → IsTrue (is_sized (env k) (ArrayOf (tree k r) (option_or m n)))
+    → tree k a ≡ ArrayOf t m → tree k b ≡ ArrayOf u n → tree k r ≡ composite_of t u → IsTrue (is_sized (env k) (ArrayOf (tree k r) (option_or m n)))
 sized_joined k a b r t u m n all la lb lr h ia ib made =
     let left : IsTrue (is_sized (env k) (ArrayOf t m)) = subst (λ (x : Ty). IsTrue (is_sized (env k) x)) ia (all.types a la) in
     let right : IsTrue (is_sized (env k) (ArrayOf u n)) = subst (λ (x : Ty). IsTrue (is_sized (env k) x)) ib (all.types b lb) in
@@ -157,7 +157,7 @@ joins_next m0 m bound left right list x y xs ys le h =
     }
 
 pub joins_more : (m0 m k : Known) (bound : ℕ) (left right list : List TypeId) (x y r : TypeId) (xs ys : List TypeId) → bound ≤ length m0.terms → Joins m0 m bound left right list (x ∷ xs) (y ∷ ys)
-    → Grows m k → r.0 < length k.terms → tree k r.0 ≡ composite (tree m x.0) (tree m y.0) → Joins m0 k bound left right (list ++ (r ∷ [])) xs ys
+    → Grows m k → r.0 < length k.terms → tree k r.0 ≡ composite_of (tree m x.0) (tree m y.0) → Joins m0 k bound left right (list ++ (r ∷ [])) xs ys
 joins_more m0 m k bound left right list x y r xs ys le h g lr made =
     let more = h.grows.more in
     let terms : length m.terms ≤ length k.terms = g.more.terms in
@@ -165,8 +165,8 @@ joins_more m0 m k bound left right list x y r xs ys le h g lr made =
     let ly : y.0 < length m0.terms = h.right_below.0 in
     let lx0 : x.0 < length m0.terms = omega (arith, lx, le) in
     let rest = composites (tys_in (trees m0) xs) (tys_in (trees m0) ys) in
-    let one : tree k r.0 ≡ composite (tree m0 x.0) (tree m0 y.0) =
-    made ∙ ap (λ (t : Ty). composite t (tree m y.0)) (more.trees x.0 lx0) ∙ ap (composite (tree m0 x.0)) (more.trees y.0 ly) in
+    let one : tree k r.0 ≡ composite_of (tree m0 x.0) (tree m0 y.0) =
+    made ∙ ap (λ (t : Ty). composite_of t (tree m y.0)) (more.trees x.0 lx0) ∙ ap (composite_of (tree m0 x.0)) (more.trees y.0 ly) in
     record {
       grows = then_grows m0 m k h.grows g;
       known = below_push (length k.terms) list r (below_more (length m.terms) (length k.terms) list terms h.known) lr;
@@ -174,7 +174,7 @@ joins_more m0 m k bound left right list x y r xs ys le h g lr made =
       right_below = h.right_below.1;
       matching = matching_rest (tree m0 x.0) (tree m0 y.0) (tys_in (trees m0) xs) (tys_in (trees m0) ys) h.matching;
       whole = before_push k list r rest ∙ ap (λ (t : Ty). before k list (MoreTys t rest)) one
-          ∙ before_stands m k list (MoreTys (composite (tree m0 x.0) (tree m0 y.0)) rest) g.more.trees h.known ∙ h.whole;
+          ∙ before_stands m k list (MoreTys (composite_of (tree m0 x.0) (tree m0 y.0)) rest) g.more.trees h.known ∙ h.whole;
     }
 
 -- lists that match are equally long
@@ -208,7 +208,7 @@ module _ (m0 m : Known) (bound : ℕ) (left right list : List TypeId) (i : ℕ) 
   pub next_at : bound ≤ length m0.terms → Next m0 m bound (get_or left i no_type) (get_or right i no_type)
   next_at le = joins_next m0 m bound left right list (get_or left i no_type) (get_or right i no_type) (drop (suc i) left) (drop (suc i) right) le split
 
-  pub more_at : (k : Known) (r : TypeId) → bound ≤ length m0.terms → Grows m k → r.0 < length k.terms → tree k r.0 ≡ composite (tree m (get_or left i no_type).0) (tree m (get_or right i no_type).0)
+  pub more_at : (k : Known) (r : TypeId) → bound ≤ length m0.terms → Grows m k → r.0 < length k.terms → tree k r.0 ≡ composite_of (tree m (get_or left i no_type).0) (tree m (get_or right i no_type).0)
       → Joins m0 k bound left right (list ++ (r ∷ [])) (drop (i + 1) left) (drop (i + 1) right)
   more_at k r le g lr made = rw add-one (joins_more m0 m k bound left right list (get_or left i no_type) (get_or right i no_type) r (drop (suc i) left) (drop (suc i) right) le split g lr made)
 

@@ -13,15 +13,15 @@ use Rattle.pv_typed.specs.Tables.{Stored}
 use Rattle.pv_check.specs.Open.{state_of}
 use Rattle.pv_check.specs.Raw.{Raw, scope_shown, scopes_shown}
 use Rattle.pv_check.specs.State.{State, After, env, Meaning, ObjectName, FunctionName, TypedefOf, ConstantOf, TagMeaning, CompositeTag, EnumerationTag, OpenEnumeration, give}
-use Rattle.pv_check.specs.Scopes.{look, look_tag, find, innermost, entered, bind, bind_tag}
+use Rattle.pv_check.specs.Scopes.{look, look_tag, find, innermost_scope, in_new_scope, bind, bind_tag}
 use Rattle.pv_typed.specs.Constants.{and_then}
 use Rattle.pv_check.specs.Specifiers.{Seen}
-use Rattle.pv_check.specs.Tags.{with_member, tag_named, composite_named, enumeration_named, opened, opened_named, is_open, completed, with_done, filed_with, opened_enumeration, closed_enumeration, enumerated, is_union_word, new_tag}
+use Rattle.pv_check.specs.Tags.{with_member, tag_named, composite_named, enumeration_named, tag_before_list, opened_named, is_open, completion_of, with_done, filed_with, opened_enumeration, closed_enumeration, enumerator_step, is_union_word, new_tag}
 use Rattle.pv_check.specs.TagParts.{some_members}
-use Rattle.pv_check.specs.Derivations.{Parameter as OneParameter, Steps, declared_name, optional_name, may_be_variadic, Signature, proper, with_function, with_parameter, with_object, derived, adjusted}
+use Rattle.pv_check.specs.Derivations.{Parameter as OneParameter, Steps, declared_name, optional_name, may_be_variadic, Signature, proper_parameters, with_function, with_parameter, with_object, derived_type, adjustment_of}
 use Rattle.pv_check.specs.Primary.{name_of}
 use Rattle.pv_check.specs.PrimaryParts.{designator_of, is_of_library}
-use Rattle.pv_check.specs.Rows.{ByValue, operand, integer_value, plain, member_of, callee, called_by}
+use Rattle.pv_check.specs.Rows.{ByValue, operand, integer_value, type_without_storage, member_of, callee, called_by}
 use Rattle.pv_check.specs.RowParts.{by_function}
 use Rattle.pv_check.specs.Typing.{types, arguments, type_named, specifiers, specifier_in, specifier, members, member_in, member_declarators, member_declarator, enumerators, enumerator_in, enumerator_value, steps, optional_steps, array_size, parameters, parameter_in}
 
@@ -113,7 +113,7 @@ opened_at_leaves n union k (Some (CompositeTag u i)) s h = if_leaves n _ _ (some
 opened_at_leaves n union k (Some EnumerationTag) s h = none_leaves n
 opened_at_leaves n union k (Some OpenEnumeration) s h = none_leaves n
 
-opened_leaves : (n : ℕ) (union : Bool) (k : Option ℕ) (s : State) → length s.scopes ≡ n → Leaves n (opened union k s)
+opened_leaves : (n : ℕ) (union : Bool) (k : Option ℕ) (s : State) → length s.scopes ≡ n → Leaves n (tag_before_list union k s)
 opened_leaves n union None s h = some_leaves n _ _ h
 opened_leaves n union (Some k) s h = opened_at_leaves n union k _ s h
 
@@ -125,15 +125,15 @@ filed_same (Some k) t s = here _
     here true = refl
     here false = refl
 
-completed_leaves : (n : ℕ) (union : Bool) (k : Option ℕ) (i : ℕ) (ms : List Named) (s : State) → length s.scopes ≡ n → Leaves n (completed union k i ms s)
+completed_leaves : (n : ℕ) (union : Bool) (k : Option ℕ) (i : ℕ) (ms : List Named) (s : State) → length s.scopes ≡ n → Leaves n (completion_of union k i ms s)
 completed_leaves n union k i ms s h =
     if_leaves n (is_open s i) _ (if_leaves n _ _ (some_leaves n (tag_type union i) _ (ap length (filed_same k (tag_type union i) (with_done union i ms s)) ∙ h)))
 
 some_members_leave : (n : ℕ) (a : After (List Named)) → length a.state.scopes ≡ n → Leaves n (some_members a)
 some_members_leave n a h = if_leaves n _ _ (some_leaves n a.value a.state h)
 
-enumerated_leaves : (n k : ℕ) (v : ℤ) (s : State) → length s.scopes ≡ n → Leaves n (enumerated k v s)
-enumerated_leaves n k v s h = if_leaves n _ _ (here (is_some (find (innermost s.scopes).names k)))
+enumerated_leaves : (n k : ℕ) (v : ℤ) (s : State) → length s.scopes ≡ n → Leaves n (enumerator_step k v s)
+enumerated_leaves n k v s h = if_leaves n _ _ (here (is_some (find (innermost_scope s.scopes).names k)))
   where
     here : (b : Bool) → Leaves n (and_then (if b then None else Some (bind k (ConstantOf v) s)) (give (Some (v +ℤ pos 1))))
     here true = none_leaves n
@@ -142,7 +142,7 @@ enumerated_leaves n k v s h = if_leaves n _ _ (here (is_some (find (innermost s.
 -- an enumeration's tag before its list, and behind it
 opened_then : {A : Type 0} (n : ℕ) (k : Option ℕ) (s : State) (f : State → Option (After A)) → length s.scopes ≡ n → ((z : State) → length z.scopes ≡ n → Leaves n (f z)) → Leaves n (and_then (opened_enumeration k s) f)
 opened_then n None s f h g = g s h
-opened_then {A} n (Some k) s f h g = here (is_some (find (innermost s.scopes).tags k))
+opened_then {A} n (Some k) s f h g = here (is_some (find (innermost_scope s.scopes).tags k))
   where
     here : (b : Bool) → Leaves n (and_then (if b then None else Some (bind_tag k OpenEnumeration s)) f)
     here true = none_leaves n
@@ -156,7 +156,7 @@ closed_same n (Some k) s h = tag_bound n k EnumerationTag s h
 
 parameter_leaves : (n : ℕ) (ps : List OneParameter) (k : Option (ℕ × ℕ)) (s : State) (t : Ty) → length s.scopes ≡ n → Leaves n (with_parameter ps k s t)
 parameter_leaves n ps None s t h = some_leaves n _ s h
-parameter_leaves n ps (Some (k, line)) s t h = here (is_some (find (innermost s.scopes).names k))
+parameter_leaves n ps (Some (k, line)) s t h = here (is_some (find (innermost_scope s.scopes).names k))
   where
     here : (b : Bool) → Leaves n (and_then (if b then None else Some (bind k (ObjectName (length s.unit.objects)) s)) (λ (x : State). give (Some (ps ++ (record { t = t; name = Some k; object = Some (length s.unit.objects) } ∷ []))) (with_object (Some (k, line)) t x)))
     here true = none_leaves n
@@ -168,21 +168,21 @@ left_length n s h = let e : length (take (length s.scopes - 1) s.scopes) ≡ len
 -- a list of parameters in a scope of its own
 list_leaves : (n : ℕ) (v : Bool) (x : Steps) (o : Option (After (List OneParameter))) → Leaves (n + 1) o → Leaves n (and_then o (by_function v x))
 list_leaves n v x None h = none_leaves n
-list_leaves n v x (Some a) h = here (proper v a.value)
+list_leaves n v x (Some a) h = here (proper_parameters v a.value)
   where
-    here : (o : Option (List OneParameter)) → Leaves n (and_then (and_then o (λ ps. give (Some (record { parameters = ps; variadic = v; scope = innermost a.state.scopes })) (record a.state { scopes = take (length a.state.scopes - 1) a.state.scopes }))) (λ (g : After Signature). give (Some (with_function x g.value)) g.state))
+    here : (o : Option (List OneParameter)) → Leaves n (and_then (and_then o (λ ps. give (Some (record { parameters = ps; variadic = v; scope = innermost_scope a.state.scopes })) (record a.state { scopes = take (length a.state.scopes - 1) a.state.scopes }))) (λ (g : After Signature). give (Some (with_function x g.value)) g.state))
     here None = none_leaves n
     here (Some ps) = some_leaves n _ _ (left_length n a.state (h.held a refl))
 
-entered_length : (n : ℕ) (s : State) → length s.scopes ≡ n → length (entered s).scopes ≡ n + 1
+entered_length : (n : ℕ) (s : State) → length s.scopes ≡ n → length (in_new_scope s).scopes ≡ n + 1
 entered_length n s h = omega (arith, h, length-append s.scopes (record { names = []; tags = [] } ∷ []))
 
 member_leaves : (k : Option (ℕ × ℕ)) (t : Ty) (ms : List Named) (n : ℕ) (a : After Steps) → length a.state.scopes ≡ n → Leaves n (member_of k t ms a)
 member_leaves None t ms n a h = none_leaves n
-member_leaves (Some (k, line)) t ms n a h = value_then n (derived false (env a.state) a.value.list t) _ (λ (u : Ty). give_leaves n (with_member a.state ms k u) a.state h)
+member_leaves (Some (k, line)) t ms n a h = value_then n (derived_type false (env a.state) a.value.list t) _ (λ (u : Ty). give_leaves n (with_member a.state ms k u) a.state h)
 
-plain_leaves : {B : Type 0} (n : ℕ) (a : After Seen) (f : After Ty → Option (After B)) → length a.state.scopes ≡ n → ((b : After Ty) → length b.state.scopes ≡ n → Leaves n (f b)) → Leaves n (and_then (plain a) f)
-plain_leaves n a f h k = then_leaves n (plain a) f (give_leaves n _ a.state h) k
+plain_leaves : {B : Type 0} (n : ℕ) (a : After Seen) (f : After Ty → Option (After B)) → length a.state.scopes ≡ n → ((b : After Ty) → length b.state.scopes ≡ n → Leaves n (f b)) → Leaves n (and_then (type_without_storage a) f)
+plain_leaves n a f h k = then_leaves n (type_without_storage a) f (give_leaves n _ a.state h) k
 
 mutual
   pub types_leave : (e : ExpressionTree) (n : ℕ) (s : State) → length s.scopes ≡ n → Leaves n (types e s)
@@ -308,13 +308,13 @@ mutual
   steps_leave (Pointer line consts d) n s h = then_leaves n _ _ (steps_leave d n s h) (λ m j. some_leaves n _ m.state j)
   steps_leave (Array line d z) n s h = then_leaves n _ _ (steps_leave d n s h) (λ a i. then_leaves n _ _ (size_leaves z n a.state i) (λ m j. some_leaves n _ m.state j))
   steps_leave (FunctionDeclarator line d ps v) n s h =
-      if_leaves n (may_be_variadic v d s) _ (then_leaves n _ _ (steps_leave d n s h) (λ a i. list_leaves n v a.value _ (parameters_leave ps (n + 1) (entered a.state) (entered_length n a.state i))))
+      if_leaves n (may_be_variadic v d s) _ (then_leaves n _ _ (steps_leave d n s h) (λ a i. list_leaves n v a.value _ (parameters_leave ps (n + 1) (in_new_scope a.state) (entered_length n a.state i))))
   steps_leave (AbstractParen line d) n s h = steps_leave d n s h
   steps_leave (AbstractPointer line consts d) n s h = then_leaves n _ _ (optional_leaves d n s h) (λ m j. some_leaves n _ m.state j)
   steps_leave (AbstractArray line d z) n s h = then_leaves n _ _ (optional_leaves d n s h) (λ a i. then_leaves n _ _ (size_leaves z n a.state i) (λ m j. some_leaves n _ m.state j))
   steps_leave (AbstractFunction line d ps true) n s h = none_leaves n
   steps_leave (AbstractFunction line d ps false) n s h =
-      then_leaves n _ _ (optional_leaves d n s h) (λ a i. list_leaves n false a.value _ (parameters_leave ps (n + 1) (entered a.state) (entered_length n a.state i)))
+      then_leaves n _ _ (optional_leaves d n s h) (λ a i. list_leaves n false a.value _ (parameters_leave ps (n + 1) (in_new_scope a.state) (entered_length n a.state i)))
 
   pub optional_leaves : (o : OptionalTree) (n : ℕ) (s : State) → length s.scopes ≡ n → Leaves n (optional_steps o s)
   optional_leaves Absent n s h = some_leaves n _ s h
@@ -341,7 +341,7 @@ mutual
   pub parameter_in_leaves : (x : Tree) (n : ℕ) (p : After (List OneParameter)) → length p.state.scopes ≡ n → Leaves n (parameter_in x p)
   parameter_in_leaves (OfDeclaration (Parameter line specs d)) n p h =
       then_leaves n _ _ (specifiers_leave specs n p.state h) (λ a j. plain_leaves n a _ j
-      (λ b k. then_leaves n _ _ (optional_leaves d n b.state k) (λ c m. value_then n (and_then (derived true (env c.state) c.value.list b.value) adjusted) (with_parameter p.value (optional_name d) c.state) (λ t. parameter_leaves n p.value (optional_name d) c.state t m))))
+      (λ b k. then_leaves n _ _ (optional_leaves d n b.state k) (λ c m. value_then n (and_then (derived_type true (env c.state) c.value.list b.value) adjustment_of) (with_parameter p.value (optional_name d) c.state) (λ t. parameter_leaves n p.value (optional_name d) c.state t m))))
   parameter_in_leaves (OfDeclaration (FunctionTree line specs d b)) n p h = none_leaves n
   parameter_in_leaves (OfDeclaration (Declaration line specs ds)) n p h = none_leaves n
   parameter_in_leaves (OfDeclaration (InitDeclarator line d i)) n p h = none_leaves n

@@ -3,7 +3,7 @@ use Rattle.std.proofs.Common.{◌≡◌, ℕ, Bool, List, sym, ◌∙◌, ap, su
 use Rattle.pv_types.specs.Known.{Known, env, heading_at}
 use Rattle.pv_types.specs.Formed.{parameters_at}
 use Rattle.pv_typed.specs.TypedUnits.{WholeUnit}
-use Rattle.pv_typed.specs.Tables.{Stored, whole}
+use Rattle.pv_typed.specs.Tables.{Stored, whole_unit}
 use Rattle.pv_typed.specs.Formed.{Grown}
 use Rattle.pv_check.specs.Growing.{AreSized}
 use Rattle.pv_check.specs.Raw.{Raw, scopes_shown}
@@ -19,7 +19,7 @@ goes_same_types a b grown e = record {
   completed = lengthens_same (env a.known) (env b.known) (ap env e);
 }
 
-pub state_same_types : (texts : List (List ℕ)) (u : Bool) (a b : Stored) (s : Raw) (w : WholeUnit) → b.known ≡ a.known → whole b ≡ w → state_of texts u s b ≡ record (state_of texts u s a) { unit = w }
+pub state_same_types : (texts : List (List ℕ)) (u : Bool) (a b : Stored) (s : Raw) (w : WholeUnit) → b.known ≡ a.known → whole_unit b ≡ w → state_of texts u s b ≡ record (state_of texts u s a) { unit = w }
 state_same_types texts u a b s w e f =
     ap (λ (k : Known). record (state_of texts u s b) { scopes = scopes_shown k s.scopes }) e
     ∙ ap (λ x. record (state_of texts u s a) { unit = x }) f

@@ -12,7 +12,7 @@ use Rattle.pv_types.specs.Known.{Known, env, tree, trees, named_in, at}
 use Rattle.pv_types.specs.Formed.{MembersBelow, NamesDiffer, IsNewName, AreComplete}
 use Rattle.pv_types.specs.Layouts.{Entry, Named, is_complete_in}
 use Rattle.pv_types.specs.Ty.{Ty}
-use Rattle.pv_typed.specs.Tables.{Stored, whole}
+use Rattle.pv_typed.specs.Tables.{Stored, whole_unit}
 use Rattle.pv_check.specs.declared.composites.MemberList.{MemberList}
 use Rattle.pv_check.specs.MembersRead.{members_shown, members_if, after_members, AreMembers}
 use Rattle.pv_check.specs.Open.{state_of, IsOpen, Goes}
@@ -107,7 +107,7 @@ members_give texts u s m None = refl
 members_give texts u s m (Some x) = refl
 
 -- a: before; b: where the member's type is made
-pub member_after : (texts : List (List ℕ)) (u : Bool) (a b : Stored) (s : Raw) (ms : MemberList) (n : ℕ) (t : TypeId) (o : Option Ty) (r : Option MemberList) → IsOpen a s → Goes a b → whole b ≡ whole a → AreMembers a.known ms
+pub member_after : (texts : List (List ℕ)) (u : Bool) (a b : Stored) (s : Raw) (ms : MemberList) (n : ℕ) (t : TypeId) (o : Option Ty) (r : Option MemberList) → IsOpen a s → Goes a b → whole_unit b ≡ whole_unit a → AreMembers a.known ms
     → Some (tree b.known t.0) ≡ o
     → members_if b.known r ≡ with_member (state_of texts u s b) (members_shown b.known ms) n (tree b.known t.0)
     → after_members texts u s b r ≡ and_then o (λ v. give (with_member (state_of texts u s a) (members_shown a.known ms) n v) (state_of texts u s a))

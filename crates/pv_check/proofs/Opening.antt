@@ -5,7 +5,7 @@ use Rattle.pv_types.specs.Known.{Known, Heading, env, heading_at}
 use Rattle.pv_types.specs.Layouts.{Entry as LayoutEntry}
 use Rattle.pv_check.proofs.Growth.{env_more}
 use Rattle.pv_typed.specs.Known.{Each, AreKnown}
-use Rattle.pv_typed.specs.Tables.{Stored, whole}
+use Rattle.pv_typed.specs.Tables.{Stored, whole_unit}
 use Rattle.pv_typed.proofs.Adding.{grown_refl, grown_trans}
 use Rattle.pv_typed.proofs.Each.{each_weaker, each_at, map_same}
 use Rattle.pv_check.specs.declared.scopes.Entry.{Entry}
@@ -14,9 +14,9 @@ use Rattle.pv_check.specs.declared.scopes.TagEntry.{TagEntry}
 use Rattle.pv_check.specs.declared.scopes.TagEntry.TheVariants as tag
 use Rattle.pv_check.specs.Growing.{Lengthens, Grows}
 use Rattle.pv_check.specs.State.{TypedefOf, CompositeTag}
-use Rattle.pv_check.specs.Scopes.{find, look_by, innermost, with_innermost, bind_tag}
+use Rattle.pv_check.specs.Scopes.{find, look_by, innermost_scope, with_innermost, bind_tag}
 use Rattle.std.specs.Option.{option_or}
-use Rattle.pv_check.specs.ScopeParts.{bound}
+use Rattle.pv_check.specs.ScopeParts.{with_meaning}
 use Rattle.pv_check.specs.Raw.{Raw, RawScope, no_raw, raw_innermost, raw_names, raw_tags, with_tag, with_name, name_shown, tag_shown, scope_shown, scopes_shown, meaning_in, tag_meaning, used_of}
 use Rattle.pv_check.proofs.Keeping.{grown_typed, whole_typed}
 use Rattle.pv_check.proofs.Showing.{tag_bound_shown}
@@ -106,18 +106,18 @@ pub scopes_stay : (a b : Stored) (s : Raw) → IsOpen a s → Goes a b → scope
 scopes_stay a b s h g = map_same (scope_shown b.known) (scope_shown a.known) (ScopeKnown a) (λ x k. shown_stays a b g x k) s.scopes h.scopes
 
 -- where the unit is the same, the state is
-pub state_stays : (texts : List (List ℕ)) (u : Bool) (a b : Stored) (s : Raw) → IsOpen a s → Goes a b → whole b ≡ whole a → state_of texts u s b ≡ state_of texts u s a
+pub state_stays : (texts : List (List ℕ)) (u : Bool) (a b : Stored) (s : Raw) → IsOpen a s → Goes a b → whole_unit b ≡ whole_unit a → state_of texts u s b ≡ state_of texts u s a
 state_stays texts u a b s h g same =
-    ap (λ ss. record { scopes = ss; unit = whole b; texts = texts; used = map used_of s.used; unevaluated = u }) (scopes_stay a b s h g)
+    ap (λ ss. record { scopes = ss; unit = whole_unit b; texts = texts; used = map used_of s.used; unevaluated = u }) (scopes_stay a b s h g)
     ∙ ap (λ w. record { scopes = scopes_shown a.known s.scopes; unit = w; texts = texts; used = map used_of s.used; unevaluated = u }) same
 
 -- ---- a tag more in the innermost scope
 
-each_bound : {V : Type 0} (P : V → Type 0) (n : ℕ) (x : V) (es : List (ℕ × V)) → Each (λ (e : ℕ × V). P e.1) es → P x → Each (λ (e : ℕ × V). P e.1) (bound n x es)
+each_bound : {V : Type 0} (P : V → Type 0) (n : ℕ) (x : V) (es : List (ℕ × V)) → Each (λ (e : ℕ × V). P e.1) es → P x → Each (λ (e : ℕ × V). P e.1) (with_meaning n x es)
 each_bound P n x [] h k = (k, tt)
 each_bound {V} P n x (e ∷ es) h k = at (nat_eq n e.0) h.0 h.1 (each_bound P n x es h.1 k)
   where
-    at : (b : Bool) → P e.1 → Each (λ (y : ℕ × V). P y.1) es → Each (λ (y : ℕ × V). P y.1) (bound n x es) → Each (λ (y : ℕ × V). P y.1) (if b then (e.0, x) ∷ es else e ∷ bound n x es)
+    at : (b : Bool) → P e.1 → Each (λ (y : ℕ × V). P y.1) es → Each (λ (y : ℕ × V). P y.1) (with_meaning n x es) → Each (λ (y : ℕ × V). P y.1) (if b then (e.0, x) ∷ es else e ∷ with_meaning n x es)
     at true p q r = (k, q)
     at false p q r = (p, r)
 
@@ -136,7 +136,7 @@ open_tag m s n x h k =
     record {
       known = h.known;
       sized = h.sized;
-      some = omega (arith, some, length-set s.scopes (length s.scopes - 1) (record (raw_innermost s.scopes) { tags = bound n x (raw_innermost s.scopes).tags }));
+      some = omega (arith, some, length-set s.scopes (length s.scopes - 1) (record (raw_innermost s.scopes) { tags = with_meaning n x (raw_innermost s.scopes).tags }));
       scopes = each_set (ScopeKnown m) s.scopes (length s.scopes - 1) _ h.scopes (inner.0, each_bound (TagKnown m) n x (raw_innermost s.scopes).tags inner.1 k);
     }
 
@@ -147,7 +147,7 @@ open_name m s n x h k =
     record {
       known = h.known;
       sized = h.sized;
-      some = omega (arith, some, length-set s.scopes (length s.scopes - 1) (record (raw_innermost s.scopes) { names = bound n x (raw_innermost s.scopes).names }));
+      some = omega (arith, some, length-set s.scopes (length s.scopes - 1) (record (raw_innermost s.scopes) { names = with_meaning n x (raw_innermost s.scopes).names }));
       scopes = each_set (ScopeKnown m) s.scopes (length s.scopes - 1) _ h.scopes (each_bound (EntryKnown m) n x (raw_innermost s.scopes).names inner.0 k, inner.1);
     }
 
@@ -189,21 +189,21 @@ goes_types s lent k e known =
       completed = lengthens_same (env s.known) (env k) (env_more s.known k g.more);
     })
 
-pub whole_types : (s : Stored) (lent k : Known) → lent ≡ s.known → AreKnown s → Grows lent k → whole (record s { known = k }) ≡ whole s
+pub whole_types : (s : Stored) (lent k : Known) → lent ≡ s.known → AreKnown s → Grows lent k → whole_unit (record s { known = k }) ≡ whole_unit s
 whole_types s lent k e known =
-    subst (λ (m : Known). Grows m k → whole (record s { known = k }) ≡ whole s) (sym e)
+    subst (λ (m : Known). Grows m k → whole_unit (record s { known = k }) ≡ whole_unit s) (sym e)
     (λ g. whole_typed s k known g.more.trees g.more.terms g.more.completed g.more.headings)
 
 -- a tag more in the innermost scope, and tables that have more
 pub state_tag : (texts : List (List ℕ)) (u : Bool) (a b : Stored) (s : Raw) (n : ℕ) (x : TagEntry) → IsOpen a s → Goes a b
-    → state_of texts u (with_tag s n x) b ≡ bind_tag n (tag_meaning b.known x) (record (state_of texts u s a) { unit = whole b })
+    → state_of texts u (with_tag s n x) b ≡ bind_tag n (tag_meaning b.known x) (record (state_of texts u s a) { unit = whole_unit b })
 state_tag texts u a b s n x h g =
-    ap (λ ss. record { scopes = ss; unit = whole b; texts = texts; used = map used_of s.used; unevaluated = u })
+    ap (λ ss. record { scopes = ss; unit = whole_unit b; texts = texts; used = map used_of s.used; unevaluated = u })
     (tag_bound_shown b.known s n x h.some
-    ∙ ap (λ ss. with_innermost ss (record (innermost ss) { tags = bound n (tag_meaning b.known x) (innermost ss).tags })) (scopes_stay a b s h g))
+    ∙ ap (λ ss. with_innermost ss (record (innermost_scope ss) { tags = with_meaning n (tag_meaning b.known x) (innermost_scope ss).tags })) (scopes_stay a b s h g))
 
 pub state_tagged : (texts : List (List ℕ)) (u : Bool) (a b : Stored) (s t : Raw) (n : ℕ) (x : TagEntry) → IsOpen a s → Goes a b → t ≡ with_tag s n x
-    → state_of texts u t b ≡ bind_tag n (tag_meaning b.known x) (record (state_of texts u s a) { unit = whole b })
+    → state_of texts u t b ≡ bind_tag n (tag_meaning b.known x) (record (state_of texts u s a) { unit = whole_unit b })
 state_tagged texts u a b s t n x h g e = ap (λ r. state_of texts u r b) e ∙ state_tag texts u a b s n x h g
 
 pub open_tagged : (a b : Stored) (s t : Raw) (n : ℕ) (x : TagEntry) → IsOpen a s → Goes a b → TagKnown b x → t ≡ with_tag s n x → IsOpen b t

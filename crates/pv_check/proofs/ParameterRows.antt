@@ -9,7 +9,7 @@ use Rattle.pv_types.specs.Formed.{parameters_at}
 use Rattle.pv_types.specs.Ty.{Ty, Tys}
 use Rattle.pv_typed.specs.Entries.{with_object}
 use Rattle.pv_typed.specs.Known.{Each}
-use Rattle.pv_typed.specs.Tables.{Stored, whole, object_in, nodes}
+use Rattle.pv_typed.specs.Tables.{Stored, whole_unit, object_in, nodes}
 use Rattle.pv_typed.specs.TypedUnits.{WholeUnit}
 use Rattle.pv_typed.proofs.Each.{each_weaker, map_same}
 use Rattle.pv_check.specs.declared.declarators.Steps.{Steps}
@@ -19,12 +19,12 @@ use Rattle.pv_check.specs.declared.parameters.Signature.{Signature}
 use Rattle.pv_check.specs.declared.scopes.Entry.{Entry}
 use Rattle.pv_check.specs.declared.scopes.Entry.TheVariants as entry
 use Rattle.pv_check.specs.Declarators.{parameter_shown, parameters_shown, signature_shown, signature_if, steps_shown, ParameterKnown, SignatureKnown}
-use Rattle.pv_check.specs.Derivations.{Parameter as WholeParameter, Signature as WholeSignature, Steps as WholeSteps, ByFunction, Derivation, with_parameter, with_object as with_one, proper, parameter_types, nearest}
+use Rattle.pv_check.specs.Derivations.{Parameter as WholeParameter, Signature as WholeSignature, Steps as WholeSteps, ByFunction, Derivation, with_parameter, with_object as with_one, proper_parameters, parameter_types, nearest_parameters}
 use Rattle.pv_check.specs.Open.{state_of, IsOpen, Goes, EntryKnown, ScopeKnown}
 use Rattle.pv_check.specs.Raw.{Raw, RawScope, raw_of, raw_innermost, with_name, used_of, scope_shown, scopes_shown, meaning_in, meaning_if}
 use Rattle.pv_check.specs.RowParts.{by_function}
 use Rattle.pv_check.specs.State.{State, After, Scope, ObjectName, give}
-use Rattle.pv_check.specs.Scopes.{bind, find, innermost, left, with_scopes}
+use Rattle.pv_check.specs.Scopes.{bind, find, innermost_scope, behind_scope, with_scopes}
 use Rattle.pv_typed.specs.Constants.{and_then}
 use Rattle.pv_check.specs.Stepping.{steps_in, AreSteps}
 use Rattle.pv_check.proofs.Opening.{open_name, state_stays, scope_stays, shown_stays}
@@ -38,16 +38,16 @@ some_meaning m None = refl
 some_meaning m (Some x) = refl
 
 pub has_name : (texts : List (List ℕ)) (u : Bool) (m : Stored) (s : Raw) (n : ℕ) → IsOpen m s
-    → is_some (find (innermost (state_of texts u s m).scopes).names n) ≡ is_some (find (raw_innermost s.scopes).names n)
+    → is_some (find (innermost_scope (state_of texts u s m).scopes).names n) ≡ is_some (find (raw_innermost s.scopes).names n)
 has_name texts u m s n h = ap is_some (inner_name_shown m.known s.scopes n h.some) ∙ some_meaning m.known (find (raw_innermost s.scopes).names n)
 
 -- in tables with the same types
-pub state_named : (texts : List (List ℕ)) (u : Bool) (a b : Stored) (s t : Raw) (n : ℕ) (x : Entry) (w : WholeUnit) → IsOpen a s → t ≡ with_name s n x → b.known ≡ a.known → whole b ≡ w
+pub state_named : (texts : List (List ℕ)) (u : Bool) (a b : Stored) (s t : Raw) (n : ℕ) (x : Entry) (w : WholeUnit) → IsOpen a s → t ≡ with_name s n x → b.known ≡ a.known → whole_unit b ≡ w
     → state_of texts u t b ≡ record (bind n (meaning_in a.known x) (state_of texts u s a)) { unit = w }
 state_named texts u a b s t n x w h e same made =
     ap (λ r. state_of texts u r b) e
-    ∙ ap (λ (m : Known). record { scopes = scopes_shown m (with_name s n x).scopes; unit = whole b; texts = texts; used = map used_of s.used; unevaluated = u }) same
-    ∙ ap (λ ss. record { scopes = ss; unit = whole b; texts = texts; used = map used_of s.used; unevaluated = u }) (name_bound_shown a.known s n x h.some)
+    ∙ ap (λ (m : Known). record { scopes = scopes_shown m (with_name s n x).scopes; unit = whole_unit b; texts = texts; used = map used_of s.used; unevaluated = u }) same
+    ∙ ap (λ ss. record { scopes = ss; unit = whole_unit b; texts = texts; used = map used_of s.used; unevaluated = u }) (name_bound_shown a.known s n x h.some)
     ∙ ap (λ (v : WholeUnit). record (bind n (meaning_in a.known x) (state_of texts u s a)) { unit = v }) made
 
 pub open_named : (b : Stored) (s t : Raw) (n : ℕ) (x : Entry) → IsOpen b s → EntryKnown b x → t ≡ with_name s n x → IsOpen b t
@@ -65,25 +65,25 @@ module _ (texts : List (List ℕ)) (u : Bool) (a b : Stored) (s t : Raw) (n line
       and_then (if has then None else Some (bind n (ObjectName k) start)) (λ (x : State).
       give (Some (ps ++ (record { t = ty; name = Some n; object = Some k } ∷ []))) (with_one (Some (n, line)) ty x))
 
-  count : length (whole a).objects ≡ o
+  count : length (whole_unit a).objects ≡ o
   count = length-map a.objects (object_in a.known (nodes a)) ∙ sym number
 
   pub name_is_there : false ≡ not (is_some (find (raw_innermost s.scopes).names n)) → None ≡ with_parameter ps (Some (n, line)) start ty
-  name_is_there miss = here (is_some (find (raw_innermost s.scopes).names n)) miss ∙ ap (λ has. declared has (length (whole a).objects)) (sym (has_name texts u a s n h))
+  name_is_there miss = here (is_some (find (raw_innermost s.scopes).names n)) miss ∙ ap (λ has. declared has (length (whole_unit a).objects)) (sym (has_name texts u a s n h))
     where
-      here : (b : Bool) → false ≡ not b → None ≡ declared b (length (whole a).objects)
+      here : (b : Bool) → false ≡ not b → None ≡ declared b (length (whole_unit a).objects)
       here true e = refl
       here false e = absurd cc
 
   pub name_declared : true ≡ not (is_some (find (raw_innermost s.scopes).names n)) → t ≡ with_name s n (entry.Object o) → b.known ≡ a.known
-      → whole b ≡ with_object (whole a) (record { name = n + 2; t = ty; line = line; lasting = false; braced = false; inits = [] })
+      → whole_unit b ≡ with_object (whole_unit a) (record { name = n + 2; t = ty; line = line; lasting = false; braced = false; inits = [] })
       → Some (record { value = ps ++ (record { t = tree b.known id.0; name = Some n; object = Some o } ∷ []); state = state_of texts u t b }) ≡ with_parameter ps (Some (n, line)) start ty
   name_declared fresh e same made =
       ap (λ (v : Ty). Some (record { value = ps ++ (record { t = v; name = Some n; object = Some o } ∷ []); state = state_of texts u t b })) (ap (λ (m : Known). tree m id.0) same)
       ∙ ap (λ (x : State). Some (record { value = ps ++ (record { t = ty; name = Some n; object = Some o } ∷ []); state = x })) (state_named texts u a b s t n (entry.Object o) _ h e same made)
       ∙ here (is_some (find (raw_innermost s.scopes).names n)) fresh
       ∙ ap (declared (is_some (find (raw_innermost s.scopes).names n))) (sym count)
-      ∙ ap (λ has. declared has (length (whole a).objects)) (sym (has_name texts u a s n h))
+      ∙ ap (λ has. declared has (length (whole_unit a).objects)) (sym (has_name texts u a s n h))
     where
       here : (b : Bool) → true ≡ not b → declared false o ≡ declared b o
       here true e = absurd cc
@@ -91,7 +91,7 @@ module _ (texts : List (List ℕ)) (u : Bool) (a b : Stored) (s t : Raw) (n line
 
 -- ---- a parameter, of the type that its declarator makes
 
-module _ (texts : List (List ℕ)) (u : Bool) (a b : Stored) (s : Raw) (ps : List WholeParameter) (t : TypeId) (o : Option Ty) (h : IsOpen a s) (g : Goes a b) (same : whole b ≡ whole a) (is : Some (tree b.known t.0) ≡ o) where
+module _ (texts : List (List ℕ)) (u : Bool) (a b : Stored) (s : Raw) (ps : List WholeParameter) (t : TypeId) (o : Option Ty) (h : IsOpen a s) (g : Goes a b) (same : whole_unit b ≡ whole_unit a) (is : Some (tree b.known t.0) ≡ o) where
   pub unnamed_after : Some (record { value = ps ++ (record { t = tree b.known t.0; name = None; object = None } ∷ []); state = state_of texts u s b }) ≡ and_then o (with_parameter ps None (state_of texts u s a))
   unnamed_after =
       ap (λ (z : State). Some (record { value = ps ++ (record { t = tree b.known t.0; name = None; object = None } ∷ []); state = z })) (state_stays texts u a b s h g same)
@@ -162,24 +162,24 @@ open_left m s t h deep e =
     } in
     subst (λ r. IsOpen m r) (sym e) left
 
-pub none_proper : (v : Bool) (x : WholeSteps) (ps : List WholeParameter) (s : State) → None ≡ proper v ps → None ≡ by_function v x (record { value = ps; state = s })
-none_proper v x ps s e = ap (λ (o : Option (List WholeParameter)). and_then (and_then o (λ qs. give (Some (record { parameters = qs; variadic = v; scope = innermost s.scopes })) (left s))) (λ (g : After WholeSignature). give (Some (record { list = x.list ++ (ByFunction (parameter_types g.value.parameters) g.value.variadic ∷ []); signature = nearest x.list x.signature g.value })) g.state)) e
+pub none_proper : (v : Bool) (x : WholeSteps) (ps : List WholeParameter) (s : State) → None ≡ proper_parameters v ps → None ≡ by_function v x (record { value = ps; state = s })
+none_proper v x ps s e = ap (λ (o : Option (List WholeParameter)). and_then (and_then o (λ qs. give (Some (record { parameters = qs; variadic = v; scope = innermost_scope s.scopes })) (behind_scope s))) (λ (g : After WholeSignature). give (Some (record { list = x.list ++ (ByFunction (parameter_types g.value.parameters) g.value.variadic ∷ []); signature = nearest_parameters x.list x.signature g.value })) g.state)) e
 
 -- a: before; b: where the list of types is made; the scope is what stood innermost
 module _ (texts : List (List ℕ)) (u : Bool) (a b : Stored) (s t : Raw) (v : Bool) (x r : Steps) (ps : List Parameter) (g : Signature) (k : ℕ)
-    (opened : IsOpen a s) (goes : Goes a b) (same : whole b ≡ whole a) where
+    (opened : IsOpen a s) (goes : Goes a b) (same : whole_unit b ≡ whole_unit a) where
   abbrev steps : List Derivation → WholeSignature → Option WholeSignature → State → Option (After WholeSteps)
   steps ds n o z = Some (record { value = record { list = ds; signature = o }; state = z })
 
   pub function_more : AreSteps a.known x.list.items → IfSome x.signature (SignatureKnown a) → SignatureKnown a g
-      → Some (parameters_shown a.known g.parameters.items) ≡ proper v (parameters_shown a.known ps)
+      → Some (parameters_shown a.known g.parameters.items) ≡ proper_parameters v (parameters_shown a.known ps)
       → g.variadic ≡ v → raw_of g.scope ≡ raw_innermost s.scopes → t ≡ record s { scopes = take (length s.scopes - 1) s.scopes }
       → parameters_at b.known k ≡ parameter_types (parameters_shown a.known g.parameters.items)
       → r.list.items ≡ x.list.items ++ (Function k g.variadic ∷ [])
-      → signature_if b.known r.signature ≡ nearest (steps_in b.known x.list.items) (signature_if b.known x.signature) (signature_shown b.known g)
+      → signature_if b.known r.signature ≡ nearest_parameters (steps_in b.known x.list.items) (signature_if b.known x.signature) (signature_shown b.known g)
       → Some (record { value = steps_shown b.known r; state = state_of texts u t b }) ≡ by_function v (steps_shown a.known x) (record { value = parameters_shown a.known ps; state = state_of texts u s a })
   function_more steps_known kept known is variadic scope left_is types list nearer =
-      let sig : signature_shown b.known g ≡ record { parameters = parameters_shown a.known g.parameters.items; variadic = v; scope = innermost (state_of texts u s a).scopes } =
+      let sig : signature_shown b.known g ≡ record { parameters = parameters_shown a.known g.parameters.items; variadic = v; scope = innermost_scope (state_of texts u s a).scopes } =
       signature_stays a b g goes known
       ∙ ap (λ (w : Bool). record { parameters = parameters_shown a.known g.parameters.items; variadic = w; scope = scope_shown a.known (raw_of g.scope) }) variadic
       ∙ ap (λ (z : Scope). record { parameters = parameters_shown a.known g.parameters.items; variadic = v; scope = z }) (ap (scope_shown a.known) scope ∙ sym (innermost_shown a.known s.scopes opened.some)) in
@@ -190,16 +190,16 @@ module _ (texts : List (List ℕ)) (u : Bool) (a b : Stored) (s t : Raw) (v : Bo
       ∙ ap (λ ds. ds ++ (ByFunction (parameters_at b.known k) g.variadic ∷ [])) steps_same
       ∙ ap (λ (ts : Tys). steps_in a.known x.list.items ++ (ByFunction ts g.variadic ∷ [])) types
       ∙ ap (λ (w : Bool). steps_in a.known x.list.items ++ (ByFunction (parameter_types (parameters_shown a.known g.parameters.items)) w ∷ [])) variadic in
-      let signature_is : signature_if b.known r.signature ≡ nearest (steps_in a.known x.list.items) (signature_if a.known x.signature) (record { parameters = parameters_shown a.known g.parameters.items; variadic = v; scope = innermost (state_of texts u s a).scopes }) =
+      let signature_is : signature_if b.known r.signature ≡ nearest_parameters (steps_in a.known x.list.items) (signature_if a.known x.signature) (record { parameters = parameters_shown a.known g.parameters.items; variadic = v; scope = innermost_scope (state_of texts u s a).scopes }) =
       nearer
-      ∙ ap (λ ds. nearest ds (signature_if b.known x.signature) (signature_shown b.known g)) steps_same
-      ∙ ap (λ o. nearest (steps_in a.known x.list.items) o (signature_shown b.known g)) (if_stays a b x.signature goes kept)
-      ∙ ap (nearest (steps_in a.known x.list.items) (signature_if a.known x.signature)) sig in
-      let state_is : state_of texts u t b ≡ left (state_of texts u s a) =
+      ∙ ap (λ ds. nearest_parameters ds (signature_if b.known x.signature) (signature_shown b.known g)) steps_same
+      ∙ ap (λ o. nearest_parameters (steps_in a.known x.list.items) o (signature_shown b.known g)) (if_stays a b x.signature goes kept)
+      ∙ ap (nearest_parameters (steps_in a.known x.list.items) (signature_if a.known x.signature)) sig in
+      let state_is : state_of texts u t b ≡ behind_scope (state_of texts u s a) =
       ap (λ z. state_of texts u z b) left_is
       ∙ ap (λ ss. with_scopes (state_of texts u s b) ss) (left_shown b.known s.scopes)
-      ∙ ap left (state_stays texts u a b s opened goes same) in
+      ∙ ap behind_scope (state_stays texts u a b s opened goes same) in
       ap (λ ds. Some (record { value = record { list = ds; signature = signature_if b.known r.signature }; state = state_of texts u t b })) list_is
       ∙ ap (λ o. Some (record { value = record { list = steps_in a.known x.list.items ++ (ByFunction (parameter_types (parameters_shown a.known g.parameters.items)) v ∷ []); signature = o }; state = state_of texts u t b })) signature_is
-      ∙ ap (λ (z : State). Some (record { value = record { list = steps_in a.known x.list.items ++ (ByFunction (parameter_types (parameters_shown a.known g.parameters.items)) v ∷ []); signature = nearest (steps_in a.known x.list.items) (signature_if a.known x.signature) (record { parameters = parameters_shown a.known g.parameters.items; variadic = v; scope = innermost (state_of texts u s a).scopes }) }; state = z })) state_is
-      ∙ ap (λ (o : Option (List WholeParameter)). and_then (and_then o (λ qs. give (Some (record { parameters = qs; variadic = v; scope = innermost (state_of texts u s a).scopes })) (left (state_of texts u s a)))) (λ (y : After WholeSignature). give (Some (record { list = steps_in a.known x.list.items ++ (ByFunction (parameter_types y.value.parameters) y.value.variadic ∷ []); signature = nearest (steps_in a.known x.list.items) (signature_if a.known x.signature) y.value })) y.state)) is
+      ∙ ap (λ (z : State). Some (record { value = record { list = steps_in a.known x.list.items ++ (ByFunction (parameter_types (parameters_shown a.known g.parameters.items)) v ∷ []); signature = nearest_parameters (steps_in a.known x.list.items) (signature_if a.known x.signature) (record { parameters = parameters_shown a.known g.parameters.items; variadic = v; scope = innermost_scope (state_of texts u s a).scopes }) }; state = z })) state_is
+      ∙ ap (λ (o : Option (List WholeParameter)). and_then (and_then o (λ qs. give (Some (record { parameters = qs; variadic = v; scope = innermost_scope (state_of texts u s a).scopes })) (behind_scope (state_of texts u s a)))) (λ (y : After WholeSignature). give (Some (record { list = steps_in a.known x.list.items ++ (ByFunction (parameter_types y.value.parameters) y.value.variadic ∷ []); signature = nearest_parameters (steps_in a.known x.list.items) (signature_if a.known x.signature) y.value })) y.state)) is

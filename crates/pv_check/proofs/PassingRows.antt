@@ -14,7 +14,7 @@ use Rattle.pv_typed.specs.Children.{is_expression}
 use Rattle.pv_typed.specs.declared.rows.Row.{Row}
 use Rattle.pv_typed.specs.Formed.{Grown}
 use Rattle.pv_typed.proofs.Each.{each_weaker, map_same}
-use Rattle.pv_check.specs.Calls.{passed}
+use Rattle.pv_check.specs.Calls.{passed_arguments}
 use Rattle.pv_check.specs.CallParts.{more}
 use Rattle.pv_check.specs.Passing.{one_passed}
 
@@ -31,7 +31,7 @@ abbrev rest_of : Tys → Tys
 rest_of NoTys = NoTys
 rest_of (MoreTys t ts) = ts
 
-first_passed : (ts : Tys) (v : Bool) (a : TypedTree) (rest : List TypedTree) → passed ts v (a ∷ rest) ≡ more (one_passed ts v a) (passed (rest_of ts) v rest)
+first_passed : (ts : Tys) (v : Bool) (a : TypedTree) (rest : List TypedTree) → passed_arguments ts v (a ∷ rest) ≡ more (one_passed ts v a) (passed_arguments (rest_of ts) v rest)
 first_passed NoTys true a rest = refl
 first_passed NoTys false a rest = refl
 first_passed (MoreTys t ts) v a rest = refl
@@ -55,22 +55,22 @@ drop_at (x ∷ xs) zero d lt = refl
 drop_at (x ∷ xs) (suc i) d lt = let e : suc i + 1 ≡ suc (i + 1) = omega arith in rw e (drop_at xs i d (omega (arith, lt)))
 
 module _ (ts : List Ty) (ids : List TypeId) (v : Bool) (f : NodeId → TypedTree) (args : List NodeId) (i : ℕ) (d : NodeId) (lt : i < length args) (done : List TypedTree) where
-  here : joined done (passed (tys_in ts (drop i ids)) v (map f (drop i args))) ≡ joined done (more (one_passed (tys_in ts (drop i ids)) v (f (get_or args i d))) (passed (tys_in ts (drop (i + 1) ids)) v (map f (drop (i + 1) args))))
+  here : joined done (passed_arguments (tys_in ts (drop i ids)) v (map f (drop i args))) ≡ joined done (more (one_passed (tys_in ts (drop i ids)) v (f (get_or args i d))) (passed_arguments (tys_in ts (drop (i + 1) ids)) v (map f (drop (i + 1) args))))
   here =
-      ap (λ xs. joined done (passed (tys_in ts (drop i ids)) v (map f xs))) (drop_at args i d lt)
+      ap (λ xs. joined done (passed_arguments (tys_in ts (drop i ids)) v (map f xs))) (drop_at args i d lt)
       ∙ ap (joined done) (first_passed (tys_in ts (drop i ids)) v (f (get_or args i d)) (map f (drop (i + 1) args)))
-      ∙ ap (λ us. joined done (more (one_passed (tys_in ts (drop i ids)) v (f (get_or args i d))) (passed us v (map f (drop (i + 1) args))))) (rest_drop ts ids i)
+      ∙ ap (λ us. joined done (more (one_passed (tys_in ts (drop i ids)) v (f (get_or args i d))) (passed_arguments us v (map f (drop (i + 1) args))))) (rest_drop ts ids i)
 
   pub passed_on : (x : TypedTree) → one_passed (tys_in ts (drop i ids)) v (f (get_or args i d)) ≡ Some x
-      → joined (done ++ x ∷ []) (passed (tys_in ts (drop (i + 1) ids)) v (map f (drop (i + 1) args))) ≡ joined done (passed (tys_in ts (drop i ids)) v (map f (drop i args)))
+      → joined (done ++ x ∷ []) (passed_arguments (tys_in ts (drop (i + 1) ids)) v (map f (drop (i + 1) args))) ≡ joined done (passed_arguments (tys_in ts (drop i ids)) v (map f (drop i args)))
   passed_on x e =
       sym (joined_more done x _)
-      ∙ ap (λ o. joined done (more o (passed (tys_in ts (drop (i + 1) ids)) v (map f (drop (i + 1) args))))) (sym e)
+      ∙ ap (λ o. joined done (more o (passed_arguments (tys_in ts (drop (i + 1) ids)) v (map f (drop (i + 1) args))))) (sym e)
       ∙ sym here
 
-  pub passed_stops : one_passed (tys_in ts (drop i ids)) v (f (get_or args i d)) ≡ None → None ≡ joined done (passed (tys_in ts (drop i ids)) v (map f (drop i args)))
+  pub passed_stops : one_passed (tys_in ts (drop i ids)) v (f (get_or args i d)) ≡ None → None ≡ joined done (passed_arguments (tys_in ts (drop i ids)) v (map f (drop i args)))
   passed_stops e =
-      ap (λ o. joined done (more o (passed (tys_in ts (drop (i + 1) ids)) v (map f (drop (i + 1) args))))) (sym e) ∙ sym here
+      ap (λ o. joined done (more o (passed_arguments (tys_in ts (drop (i + 1) ids)) v (map f (drop (i + 1) args))))) (sym e) ∙ sym here
 
 pub drop_past : {A : Type 0} (xs : List A) (i : ℕ) → length xs ≤ i → drop i xs ≡ []
 drop_past [] i le = drop_nil i
@@ -79,10 +79,10 @@ drop_past (x ∷ xs) (suc i) le = drop_past xs i (omega (arith, le))
 
 -- behind the last argument
 module _ (ts : List Ty) (ids : List TypeId) (v : Bool) (f : NodeId → TypedTree) (args : List NodeId) (i : ℕ) (le : length args ≤ i) (done : List TypedTree) where
-  pub too_few : i < length ids → None ≡ joined done (passed (tys_in ts (drop i ids)) v (map f (drop i args)))
-  too_few k = at_least ids i k ∙ ap (λ xs. joined done (passed (tys_in ts (drop i ids)) v (map f xs))) (sym (drop_past args i le))
+  pub too_few : i < length ids → None ≡ joined done (passed_arguments (tys_in ts (drop i ids)) v (map f (drop i args)))
+  too_few k = at_least ids i k ∙ ap (λ xs. joined done (passed_arguments (tys_in ts (drop i ids)) v (map f xs))) (sym (drop_past args i le))
     where
-      at_least : (js : List TypeId) (j : ℕ) → j < length js → None ≡ joined done (passed (tys_in ts (drop j js)) v [])
+      at_least : (js : List TypeId) (j : ℕ) → j < length js → None ≡ joined done (passed_arguments (tys_in ts (drop j js)) v [])
       at_least [] j lt = absurd (omega (arith, lt))
       at_least (x ∷ xs) zero lt = refl
       at_least (x ∷ xs) (suc j) lt = at_least xs j (omega (arith, lt))

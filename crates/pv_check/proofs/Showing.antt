@@ -6,9 +6,9 @@ use Rattle.pv_types.specs.Known.{Known}
 use Rattle.pv_check.specs.declared.scopes.Entry.{Entry}
 use Rattle.pv_check.specs.declared.scopes.TagEntry.{TagEntry}
 use Rattle.pv_check.specs.State.{Scope}
-use Rattle.pv_check.specs.Scopes.{find, look_by, look, look_tag, innermost, no_scope, with_innermost}
+use Rattle.pv_check.specs.Scopes.{find, look_by, look, look_tag, innermost_scope, no_scope, with_innermost}
 use Rattle.std.specs.Option.{option_or}
-use Rattle.pv_check.specs.ScopeParts.{bound}
+use Rattle.pv_check.specs.ScopeParts.{with_meaning}
 use Rattle.pv_check.specs.Raw.{Raw, RawScope, no_raw, raw_innermost, raw_names, raw_tags, with_name, with_tag, meaning_in, tag_meaning, name_shown, tag_shown, scope_shown, scopes_shown, meaning_if, tag_meaning_if}
 
 -- ---- one map
@@ -29,16 +29,16 @@ find-tags : (m : Known) (es : List (ℕ × TagEntry)) (n : ℕ) → find (map (t
 find-tags m [] n = refl
 find-tags m (e ∷ es) n = ap (cond (nat_eq n e.0) (Some (tag_meaning m e.1))) (find-tags m es n) ∙ sym (chosen (tag_meaning_if m) (nat_eq n e.0) (Some e.1) (find es n))
 
-bound-names : (m : Known) (n : ℕ) (x : Entry) (es : List (ℕ × Entry)) → map (name_shown m) (bound n x es) ≡ bound n (meaning_in m x) (map (name_shown m) es)
+bound-names : (m : Known) (n : ℕ) (x : Entry) (es : List (ℕ × Entry)) → map (name_shown m) (with_meaning n x es) ≡ with_meaning n (meaning_in m x) (map (name_shown m) es)
 bound-names m n x [] = refl
 bound-names m n x (e ∷ es) =
-    chosen_if (map (name_shown m)) (nat_eq n e.0) ((e.0, x) ∷ es) (e ∷ bound n x es)
+    chosen_if (map (name_shown m)) (nat_eq n e.0) ((e.0, x) ∷ es) (e ∷ with_meaning n x es)
     ∙ ap (λ xs. if nat_eq n e.0 then (e.0, meaning_in m x) ∷ map (name_shown m) es else name_shown m e ∷ xs) (bound-names m n x es)
 
-bound-tags : (m : Known) (n : ℕ) (x : TagEntry) (es : List (ℕ × TagEntry)) → map (tag_shown m) (bound n x es) ≡ bound n (tag_meaning m x) (map (tag_shown m) es)
+bound-tags : (m : Known) (n : ℕ) (x : TagEntry) (es : List (ℕ × TagEntry)) → map (tag_shown m) (with_meaning n x es) ≡ with_meaning n (tag_meaning m x) (map (tag_shown m) es)
 bound-tags m n x [] = refl
 bound-tags m n x (e ∷ es) =
-    chosen_if (map (tag_shown m)) (nat_eq n e.0) ((e.0, x) ∷ es) (e ∷ bound n x es)
+    chosen_if (map (tag_shown m)) (nat_eq n e.0) ((e.0, x) ∷ es) (e ∷ with_meaning n x es)
     ∙ ap (λ xs. if nat_eq n e.0 then (e.0, tag_meaning m x) ∷ map (tag_shown m) es else tag_shown m e ∷ xs) (bound-tags m n x es)
 
 -- ---- all scopes
@@ -67,15 +67,15 @@ look_tag_shown m (s ∷ ss) n =
 
 -- ---- the innermost one
 
-pub innermost_shown : (m : Known) (ss : List RawScope) → 0 < length ss → innermost (scopes_shown m ss) ≡ scope_shown m (raw_innermost ss)
+pub innermost_shown : (m : Known) (ss : List RawScope) → 0 < length ss → innermost_scope (scopes_shown m ss) ≡ scope_shown m (raw_innermost ss)
 innermost_shown m ss some =
     ap (λ k. slice_index_or (scopes_shown m ss) (k - 1) no_scope) (length-map ss (scope_shown m))
     ∙ get_or-map (scope_shown m) ss (length ss - 1) no_raw no_scope (omega (arith, some))
 
-pub inner_tag_shown : (m : Known) (ss : List RawScope) (n : ℕ) → 0 < length ss → find (innermost (scopes_shown m ss)).tags n ≡ tag_meaning_if m (find (raw_innermost ss).tags n)
+pub inner_tag_shown : (m : Known) (ss : List RawScope) (n : ℕ) → 0 < length ss → find (innermost_scope (scopes_shown m ss)).tags n ≡ tag_meaning_if m (find (raw_innermost ss).tags n)
 inner_tag_shown m ss n some = ap (λ (x : Scope). find x.tags n) (innermost_shown m ss some) ∙ find-tags m (raw_innermost ss).tags n
 
-pub inner_name_shown : (m : Known) (ss : List RawScope) (n : ℕ) → 0 < length ss → find (innermost (scopes_shown m ss)).names n ≡ meaning_if m (find (raw_innermost ss).names n)
+pub inner_name_shown : (m : Known) (ss : List RawScope) (n : ℕ) → 0 < length ss → find (innermost_scope (scopes_shown m ss)).names n ≡ meaning_if m (find (raw_innermost ss).names n)
 inner_name_shown m ss n some = ap (λ (x : Scope). find x.names n) (innermost_shown m ss some) ∙ find-names m (raw_innermost ss).names n
 
 set_shown : (m : Known) (ss : List RawScope) (x : RawScope) → scopes_shown m (set ss (length ss - 1) x) ≡ with_innermost (scopes_shown m ss) (scope_shown m x)
@@ -84,15 +84,15 @@ set_shown m ss x =
     ∙ ap (λ k. set (scopes_shown m ss) (k - 1) (scope_shown m x)) (sym (length-map ss (scope_shown m)))
 
 pub tag_bound_shown : (m : Known) (s : Raw) (n : ℕ) (x : TagEntry) → 0 < length s.scopes
-    → scopes_shown m (with_tag s n x).scopes ≡ with_innermost (scopes_shown m s.scopes) (record (innermost (scopes_shown m s.scopes)) { tags = bound n (tag_meaning m x) (innermost (scopes_shown m s.scopes)).tags })
+    → scopes_shown m (with_tag s n x).scopes ≡ with_innermost (scopes_shown m s.scopes) (record (innermost_scope (scopes_shown m s.scopes)) { tags = with_meaning n (tag_meaning m x) (innermost_scope (scopes_shown m s.scopes)).tags })
 tag_bound_shown m s n x some =
     set_shown m s.scopes _
     ∙ ap (λ es. with_innermost (scopes_shown m s.scopes) (record { names = map (name_shown m) (raw_innermost s.scopes).names; tags = es })) (bound-tags m n x (raw_innermost s.scopes).tags)
-    ∙ ap (λ (y : Scope). with_innermost (scopes_shown m s.scopes) (record y { tags = bound n (tag_meaning m x) y.tags })) (sym (innermost_shown m s.scopes some))
+    ∙ ap (λ (y : Scope). with_innermost (scopes_shown m s.scopes) (record y { tags = with_meaning n (tag_meaning m x) y.tags })) (sym (innermost_shown m s.scopes some))
 
 pub name_bound_shown : (m : Known) (s : Raw) (n : ℕ) (x : Entry) → 0 < length s.scopes
-    → scopes_shown m (with_name s n x).scopes ≡ with_innermost (scopes_shown m s.scopes) (record (innermost (scopes_shown m s.scopes)) { names = bound n (meaning_in m x) (innermost (scopes_shown m s.scopes)).names })
+    → scopes_shown m (with_name s n x).scopes ≡ with_innermost (scopes_shown m s.scopes) (record (innermost_scope (scopes_shown m s.scopes)) { names = with_meaning n (meaning_in m x) (innermost_scope (scopes_shown m s.scopes)).names })
 name_bound_shown m s n x some =
     set_shown m s.scopes _
     ∙ ap (λ es. with_innermost (scopes_shown m s.scopes) (record { names = es; tags = map (tag_shown m) (raw_innermost s.scopes).tags })) (bound-names m n x (raw_innermost s.scopes).names)
-    ∙ ap (λ (y : Scope). with_innermost (scopes_shown m s.scopes) (record y { names = bound n (meaning_in m x) y.names })) (sym (innermost_shown m s.scopes some))
+    ∙ ap (λ (y : Scope). with_innermost (scopes_shown m s.scopes) (record y { names = with_meaning n (meaning_in m x) y.names })) (sym (innermost_shown m s.scopes some))

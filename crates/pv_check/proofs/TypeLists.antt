@@ -11,8 +11,8 @@ use Rattle.pv_typed.specs.Known.{Each}
 use Rattle.pv_typed.specs.Tables.{Stored}
 use Rattle.pv_check.specs.declared.parameters.Parameter.{Parameter}
 use Rattle.pv_check.specs.Declarators.{ParameterKnown, parameter_shown, parameters_shown}
-use Rattle.pv_check.specs.Derivations.{Parameter as WholeParameter, adjusted, parameter_types}
-use Rattle.pv_types.specs.Sorts.{bare}
+use Rattle.pv_check.specs.Derivations.{Parameter as WholeParameter, adjustment_of, parameter_types}
+use Rattle.pv_types.specs.Sorts.{bare_type}
 use Rattle.pv_typed.specs.Constants.{and_then}
 use Rattle.pv_check.proofs.Growth.{both_true}
 
@@ -33,16 +33,16 @@ tys_push : (ts : List Ty) (ids : List TypeId) (x : TypeId) → tys_in ts (ids ++
 tys_push ts [] x = refl
 tys_push ts (y ∷ ys) x = ap (MoreTys (at ts y.0)) (tys_push ts ys x)
 
-types_push : (ps : List WholeParameter) (p : WholeParameter) → parameter_types (ps ++ (p ∷ [])) ≡ push (parameter_types ps) (bare p.t)
+types_push : (ps : List WholeParameter) (p : WholeParameter) → parameter_types (ps ++ (p ∷ [])) ≡ push (parameter_types ps) (bare_type p.t)
 types_push [] p = refl
-types_push (q ∷ qs) p = ap (MoreTys (bare q.t)) (types_push qs p)
+types_push (q ∷ qs) p = ap (MoreTys (bare_type q.t)) (types_push qs p)
 
 pub below_push : (n : ℕ) (ids : List TypeId) (x : TypeId) → AllBelow n ids → x.0 < n → AllBelow n (ids ++ (x ∷ []))
 below_push n [] x h k = (k, tt)
 below_push n (y ∷ ys) x h k = (h.0, below_push n ys x h.1 k)
 
 pub list_more : (m : Known) (ids : List TypeId) (x : TypeId) (ps : List Parameter) (i : ℕ) (d : Parameter) → i < length ps
-    → tree m x.0 ≡ bare (tree m (get_or ps i d).t.0)
+    → tree m x.0 ≡ bare_type (tree m (get_or ps i d).t.0)
     → tys_in (trees m) ids ≡ parameter_types (parameters_shown m (take i ps))
     → tys_in (trees m) (ids ++ (x ∷ [])) ≡ parameter_types (parameters_shown m (take (i + 1) ps))
 list_more m ids x ps i d lt e h =
@@ -62,7 +62,7 @@ pub below_more : (m n : ℕ) (ids : List TypeId) → m ≤ n → AllBelow m ids 
 below_more m n [] le h = tt
 below_more m n (x ∷ xs) le h = let here : x.0 < m = h.0 in (omega (arith, le, here), below_more m n xs le h.1)
 
-adjusted_unqualified : (t : Ty) → is_adjusted (bare t) ≡ is_adjusted t
+adjusted_unqualified : (t : Ty) → is_adjusted (bare_type t) ≡ is_adjusted t
 adjusted_unqualified (ConstOf t) = adjusted_unqualified t
 adjusted_unqualified VoidTy = refl
 adjusted_unqualified (IntTy k) = refl
@@ -82,7 +82,7 @@ if_adjusted true t u h e = ap is_adjusted (ap (type_or t) e) ∙ h
 if_adjusted false t u h e = cc
 
 -- what a declared type becomes is no array and no function
-adjusted_from : (t u : Ty) → Some t ≡ adjusted u → is_adjusted t ≡ true
+adjusted_from : (t u : Ty) → Some t ≡ adjustment_of u → is_adjusted t ≡ true
 adjusted_from t VoidTy e = ap (λ o. is_adjusted (type_or t o)) e
 adjusted_from t (IntTy k) e = ap (λ o. is_adjusted (type_or t o)) e
 adjusted_from t (PointerTo u) e = ap (λ o. is_adjusted (type_or t o)) e
@@ -92,6 +92,6 @@ adjusted_from t (UnionTag n) e = ap (λ o. is_adjusted (type_or t o)) e
 adjusted_from t (FunctionTy u us v) e = cc
 adjusted_from t (ConstOf u) e = if_adjusted (is_adjusted u) t u refl e
 
-pub adjusted_then : (t : Ty) (o : Option Ty) → Some t ≡ and_then o adjusted → IsTrue (is_adjusted t)
+pub adjusted_then : (t : Ty) (o : Option Ty) → Some t ≡ and_then o adjustment_of → IsTrue (is_adjusted t)
 adjusted_then t None e = cc
 adjusted_then t (Some u) e = adjusted_from t u e

@@ -4,9 +4,9 @@ use Rattle.pv_typed.specs.TypedTree.{TypedTree, type_of, arguments_of, CallPoint
 use Rattle.pv_types.specs.Ty.{Ty}
 use Rattle.pv_library.specs.LibraryNames.{library_named}
 use Rattle.pv_check.specs.PrintfFormats.{is_format}
-use Rattle.pv_check.specs.Calls.{called, call_to, call_at, may_pass}
+use Rattle.pv_check.specs.Calls.{typed_call, call_to, call_at, may_pass}
 use Rattle.pv_types.specs.Sorts.{pointed_by}
-use Rattle.pv_check.specs.Values.{written}
+use Rattle.pv_check.specs.Values.{source_node}
 use Rattle.pv_check.specs.State.{◌>>=◌}
 use Rattle.std.specs.Prelude.{Option, ℕ, List, None, ◌∷◌, Some, false, Bool, if◌then◌else◌}
 use Rattle.std.specs.Option.{option_map, option_map_or}
@@ -14,7 +14,7 @@ use Rattle.pv_library.specs.declared.library.Library.{Library}
 
 -- 6.5.2.2p5: a call of a function by its number: its name says whether it is one of the library (7.1.3p1)
 abbrev pub called_by_name : WholeUnit → ℕ → ℕ → Ty → Option (List TypedTree) → Option TypedTree
-called_by_name u line f t args = called u line f (library_named (name_at u (function_at u f).name)) t args
+called_by_name u line f t args = typed_call u line f (library_named (name_at u (function_at u f).name)) t args
 
 -- 6.5.2.2p1: a call by a value that is a pointer to a function
 -- worked: pointer_call_rows (proofs/FunctionExamples)
@@ -35,14 +35,14 @@ is_format_literal u l = option_map_or (λ l. is_format (literal_at u l).bytes) l
 
 -- 6.5.2.2p5: a call of the function that a pointer points to, with the type of its result
 abbrev pub pointed_call : ℕ → TypedTree → Ty → Option (List TypedTree) → Option TypedTree
-pointed_call line a t args = option_map (λ xs. written line t (CallPointer a (arguments_of xs))) args
+pointed_call line a t args = option_map (λ xs. source_node line t (CallPointer a (arguments_of xs))) args
 
 -- 7.1.4p1: a call of a function of the library
 -- worked: library_call_rows (proofs/FurtherExamples); memory_function_rows, block_function_rows, string_function_rows,
 --   ending_function_rows (proofs/LibraryExamples)
 abbrev pub library_call : WholeUnit → ℕ → Library → Ty → Option (List TypedTree) → Option TypedTree
-library_call u line f t args = do xs ← args; if may_pass u f xs then Some (written line t (LibraryCall f (arguments_of xs))) else None
+library_call u line f t args = do xs ← args; if may_pass u f xs then Some (source_node line t (LibraryCall f (arguments_of xs))) else None
 
 -- 6.5.2.2p5: a call of a function of the program, with the type of its result
 abbrev pub program_call : ℕ → ℕ → Ty → Option (List TypedTree) → Option TypedTree
-program_call line f t args = option_map (λ xs. written line t (Call f (arguments_of xs))) args
+program_call line f t args = option_map (λ xs. source_node line t (Call f (arguments_of xs))) args

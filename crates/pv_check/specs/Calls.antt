@@ -9,24 +9,24 @@ use Rattle.pv_typed.specs.TypedUnits.{WholeUnit, function_at, name_at, literal_a
 use Rattle.pv_library.specs.LibraryNames.{library_named}
 use Rattle.pv_check.specs.PrintfFormats.{is_format}
 use Rattle.pv_types.specs.Sorts.{is_void}
-use Rattle.pv_check.specs.Values.{written, promoted_value, assigned}
+use Rattle.pv_check.specs.Values.{source_node, promoted_value, as_if_assigned}
 use Rattle.pv_check.specs.State.{◌>>=◌}
 use Rattle.std.specs.Option.{option_map_or, option_map}
 
 -- 6.5.2.2p6 and p7: an argument beyond the parameters is promoted
 -- worked: further_argument_rows (proofs/FormatExamples)
-abbrev pub further : TypedTree → Option TypedTree
-further a = if is_void (type_of a) then None else Some (promoted_value a)
+abbrev pub further_argument : TypedTree → Option TypedTree
+further_argument a = if is_void (type_of a) then None else Some (promoted_value a)
 
 -- 6.5.2.2p2 and p7: as many arguments as parameters, each as if assigned to its parameter, and further ones where the function takes them
 -- worked: function_call_rows (proofs/FurtherExamples); call_operand_rows (proofs/OperandExamples); passed_pointer_rows
 --   (proofs/QualifierExamples); passed_null_pointer_rows (proofs/ConstantExamples)
-abbrev pub passed : Tys → (variadic : Bool) → List TypedTree → Option (List TypedTree)
-passed NoTys variadic [] = Some []
-passed NoTys true (a ∷ rest) = do x ← further a; xs ← passed NoTys true rest; Some (x ∷ xs)
-passed NoTys false (a ∷ rest) = None
-passed (MoreTys t ts) variadic [] = None
-passed (MoreTys t ts) variadic (a ∷ rest) = do x ← assigned t a; xs ← passed ts variadic rest; Some (x ∷ xs)
+abbrev pub passed_arguments : Tys → (variadic : Bool) → List TypedTree → Option (List TypedTree)
+passed_arguments NoTys variadic [] = Some []
+passed_arguments NoTys true (a ∷ rest) = do x ← further_argument a; xs ← passed_arguments NoTys true rest; Some (x ∷ xs)
+passed_arguments NoTys false (a ∷ rest) = None
+passed_arguments (MoreTys t ts) variadic [] = None
+passed_arguments (MoreTys t ts) variadic (a ∷ rest) = do x ← as_if_assigned t a; xs ← passed_arguments ts variadic rest; Some (x ∷ xs)
 
 -- the number of the string literal that an expression is (6.5.1p4)
 abbrev pub string_in : Form → Option ℕ
@@ -50,22 +50,22 @@ may_pass u f args = true
 -- program
 -- worked: library_call_rows (proofs/FurtherExamples); memory_function_rows, block_function_rows, string_function_rows,
 --   ending_function_rows (proofs/LibraryExamples)
-abbrev pub called : WholeUnit → ℕ → ℕ → Option Library → Ty → Option (List TypedTree) → Option TypedTree
-called u line f (Some l) t args = do xs ← args; if may_pass u l xs then Some (written line t (LibraryCall l (arguments_of xs))) else None
-called u line f None t args = option_map (λ xs. written line t (Call f (arguments_of xs))) args
+abbrev pub typed_call : WholeUnit → ℕ → ℕ → Option Library → Ty → Option (List TypedTree) → Option TypedTree
+typed_call u line f (Some l) t args = do xs ← args; if may_pass u l xs then Some (source_node line t (LibraryCall l (arguments_of xs))) else None
+typed_call u line f None t args = option_map (λ xs. source_node line t (Call f (arguments_of xs))) args
 
 -- 6.5.2.2p1 and p5: the function returns void or a complete object type, which the call has; its name says whether it is one of the library (7.1.3p1)
 -- worked: incomplete_result_rows (proofs/IncompleteExamples)
 abbrev pub call_at : WholeUnit → ℕ → ℕ → Ty → List TypedTree → Option TypedTree
 call_at u line f (FunctionTy t ts variadic) args =
     if is_void t || is_complete_in (layouts u) t
-    then called u line f (library_named (name_at u (function_at u f).name)) t (passed ts variadic args)
+    then typed_call u line f (library_named (name_at u (function_at u f).name)) t (passed_arguments ts variadic args)
     else None
 call_at u line f t args = None
 
 -- 6.5.2.2p1 and p5: a call by what a value points to: a function that returns void or a complete object type
 abbrev pub call_to : WholeUnit → ℕ → TypedTree → Option Ty → List TypedTree → Option TypedTree
 call_to u line a (Some (FunctionTy t ts variadic)) args =
-    if is_void t || is_complete_in (layouts u) t then option_map (λ xs. written line t (CallPointer a (arguments_of xs))) (passed ts variadic args)
+    if is_void t || is_complete_in (layouts u) t then option_map (λ xs. source_node line t (CallPointer a (arguments_of xs))) (passed_arguments ts variadic args)
     else None
 call_to u line a _ args = None

@@ -2,15 +2,15 @@
 use Rattle.std.specs.Prelude.{ℕ, Bool, true, false, ◌||◌, if◌then◌else◌, Option, Some, None}
 use Rattle.pv_types.specs.Ty.{Ty, VoidTy, IntTy, PointerTo, StructTag, UnionTag}
 use Rattle.pv_typed.specs.TypedTree.{TypedTree, Conditional, type_of}
-use Rattle.pv_check.specs.Kinds.{common}
+use Rattle.pv_check.specs.Kinds.{common_kind}
 use Rattle.pv_check.specs.Qualified.{qualified_if}
 use Rattle.pv_types.specs.SameTypes.{same_type}
 use Rattle.pv_types.specs.Qualifiers.{is_const}
 use Rattle.pv_check.specs.Sorts.{are_alike, has_void}
-use Rattle.pv_types.specs.Sorts.{is_scalar, bare}
-use Rattle.pv_check.specs.Composite.{composite}
+use Rattle.pv_types.specs.Sorts.{is_scalar, bare_type}
+use Rattle.pv_check.specs.Composite.{composite_of}
 use Rattle.pv_typed.specs.Addresses.{is_null_constant}
-use Rattle.pv_check.specs.Values.{written, converted}
+use Rattle.pv_check.specs.Values.{source_node, conversion_to}
 use Rattle.pv_check.specs.State.{◌>>=◌, ◌>>◌, must}
 
 -- 6.5.15p6: with a null pointer constant, the type of the other operand; two of pointer type are two pointers, and give a pointer to the composite
@@ -20,13 +20,13 @@ abbrev pub pointer_type : Ty → Ty → (left right : Bool) → Option Ty
 pointer_type t u false true = Some (PointerTo t)
 pointer_type t u true false = Some (PointerTo u)
 pointer_type t u left right =
-    if are_alike t u then Some (PointerTo (qualified_if (is_const t || is_const u) (composite (bare t) (bare u))))
+    if are_alike t u then Some (PointerTo (qualified_if (is_const t || is_const u) (composite_of (bare_type t) (bare_type u))))
     else (if has_void t u then Some (PointerTo (qualified_if (is_const t || is_const u) VoidTy)) else None)
 
 -- 6.5.15p3 and p5: what two that are no pointers give: two integers, two of type void, two of one structure or union
 -- worked: chosen_structure_rows (proofs/ConditionalExamples)
 abbrev pub plain_type : Ty → Ty → Option Ty
-plain_type (IntTy k) (IntTy l) = Some (IntTy (common k l))
+plain_type (IntTy k) (IntTy l) = Some (IntTy (common_kind k l))
 plain_type VoidTy VoidTy = Some VoidTy
 plain_type (StructTag n) u = if same_type (StructTag n) u then Some u else None
 plain_type (UnionTag n) u = if same_type (UnionTag n) u then Some u else None
@@ -47,4 +47,4 @@ abbrev pub conditional_of : ℕ → TypedTree → TypedTree → TypedTree → Op
 conditional_of line a b c = do
   must (is_scalar (type_of a))
   t ← result_type (type_of b) (type_of c) (is_null_constant b) (is_null_constant c)
-  Some (written line t (Conditional a (converted t b) (converted t c)))
+  Some (source_node line t (Conditional a (conversion_to t b) (conversion_to t c)))

@@ -6,10 +6,10 @@ use Rattle.pv_typed.specs.Addresses.{is_null_constant}
 use Rattle.std.specs.Prelude.{Option, Bool, ℕ, None, Some, ◌||◌, if◌then◌else◌}
 use Rattle.pv_check.specs.Conditional.{result_type}
 use Rattle.pv_check.specs.Qualified.{qualified_if}
-use Rattle.pv_types.specs.Sorts.{bare}
-use Rattle.pv_check.specs.Values.{converted, written}
+use Rattle.pv_types.specs.Sorts.{bare_type}
+use Rattle.pv_check.specs.Values.{conversion_to, source_node}
 use Rattle.pv_check.specs.Sorts.{are_alike, has_void}
-use Rattle.pv_check.specs.Composite.{composite}
+use Rattle.pv_check.specs.Composite.{composite_of}
 use Rattle.pv_check.specs.State.{◌>>=◌}
 
 -- 6.5.15p3, p5 and p6: the type of the result, by the second and the third operand
@@ -21,13 +21,13 @@ abbrev pub pointer_to : (const : Bool) → Ty → Ty
 pointer_to const t = PointerTo (qualified_if const t)
 
 -- 6.5.15p5 and p6: the node, where there is a type of the result, to which both operands are converted
-abbrev pub chosen : ℕ → TypedTree → TypedTree → TypedTree → Option Ty → Option TypedTree
-chosen line a b c t = do t ← t; Some (written line t (Conditional a (converted t b) (converted t c)))
+abbrev pub chosen_node : ℕ → TypedTree → TypedTree → TypedTree → Option Ty → Option TypedTree
+chosen_node line a b c t = do t ← t; Some (source_node line t (Conditional a (conversion_to t b) (conversion_to t c)))
 
 -- 6.5.15p6: what two pointers that are no null pointer constants give: a pointer to the composite type, or to void where one points to void and the
 -- other to no function, with the qualifiers of both
 -- worked: composite_of_pointers_rows (proofs/ConditionalExamples)
-abbrev pub merged : Ty → Ty → Option Ty
-merged t u =
-    if are_alike t u then Some (PointerTo (qualified_if (is_const t || is_const u) (composite (bare t) (bare u))))
+abbrev pub pointer_of_both : Ty → Ty → Option Ty
+pointer_of_both t u =
+    if are_alike t u then Some (PointerTo (qualified_if (is_const t || is_const u) (composite_of (bare_type t) (bare_type u))))
     else (if has_void t u then Some (PointerTo (qualified_if (is_const t || is_const u) VoidTy)) else None)

@@ -7,10 +7,10 @@ use Rattle.pv_types.specs.Layouts.{Entry, layout_in, is_complete_in}
 use Rattle.pv_tree.specs.Syntax.{DeclaratorTree, DeclaredName, ParenDeclarator, Pointer, Array, FunctionDeclarator, OfDeclarator, OptionalTree, Present}
 use Rattle.pv_check.specs.Qualified.{with_const}
 use Rattle.pv_check.specs.Sorts.{is_array}
-use Rattle.pv_types.specs.Sorts.{is_void_in, is_void, bare}
+use Rattle.pv_types.specs.Sorts.{is_void_in, is_void, bare_type}
 use Rattle.pv_typed.specs.TypedTree.{is_function}
 use Rattle.pv_check.specs.State.{State, After, Scope, ObjectName, give, env}
-use Rattle.pv_check.specs.Scopes.{innermost, declare, left, is_file_scope}
+use Rattle.pv_check.specs.Scopes.{innermost_scope, declare, behind_scope, is_file_scope}
 use Rattle.pv_typed.specs.Constants.{and_then}
 use Rattle.pv_check.specs.PrintfFormats.{is_printf}
 
@@ -46,9 +46,9 @@ abbrev pub with_step : Steps → Derivation → Steps
 with_step x d = record { list = x.list ++ (d ∷ []); signature = x.signature }
 
 -- 6.9.1p2: the list of parameters of the step that is nearest to the name
-abbrev pub nearest : List Derivation → Option Signature → Signature → Option Signature
-nearest [] old g = Some g
-nearest (d ∷ ds) old g = old
+abbrev pub nearest_parameters : List Derivation → Option Signature → Signature → Option Signature
+nearest_parameters [] old g = Some g
+nearest_parameters (d ∷ ds) old g = old
 
 -- 6.7.6p2: the name that a declarator declares, and its line
 abbrev pub declared_name : DeclaratorTree → Option (ℕ × ℕ)
@@ -72,11 +72,11 @@ size_of (negsuc n) = None
 -- 6.7.6.3p15: of a parameter's type in that of its function no qualifiers count
 abbrev pub parameter_types : List Parameter → Tys
 parameter_types [] = NoTys
-parameter_types (p ∷ ps) = MoreTys (bare p.t) (parameter_types ps)
+parameter_types (p ∷ ps) = MoreTys (bare_type p.t) (parameter_types ps)
 
 -- 6.7.6.3p5: one step more, a function with these parameters
 abbrev pub with_function : Steps → Signature → Steps
-with_function x g = record { list = x.list ++ (ByFunction (parameter_types g.parameters) g.variadic ∷ []); signature = nearest x.list x.signature g }
+with_function x g = record { list = x.list ++ (ByFunction (parameter_types g.parameters) g.variadic ∷ []); signature = nearest_parameters x.list x.signature g }
 
 -- 6.7.6.2p1: of a complete object type; no size where `unsized` says so; no more than 2 ^ 32 bytes (5.2.4.1)
 abbrev pub array_of : (unsized : Bool) → List Entry → Option ℕ → Ty → Option Ty
@@ -89,20 +89,20 @@ array_of unsized env (Some n) t = if is_complete_in env t && nat_le (n * (layout
 abbrev pub step : Bool → List Entry → Derivation → Ty → Option Ty
 step unsized env (ByPointer constant) t = with_const constant (PointerTo t)
 step unsized env (ByArray n) t = array_of unsized env n t
-step unsized env (ByFunction ts variadic) t = if is_function t then None else (if is_array t then None else Some (FunctionTy (bare t) ts variadic))
+step unsized env (ByFunction ts variadic) t = if is_function t then None else (if is_array t then None else Some (FunctionTy (bare_type t) ts variadic))
 
 -- 6.7.6p4: the step that is furthest from the name comes first
-abbrev pub derived : Bool → List Entry → List Derivation → Ty → Option Ty
-derived unsized env [] t = Some t
-derived unsized env (d ∷ ds) t = and_then (derived unsized env ds t) (step unsized env d)
+abbrev pub derived_type : Bool → List Entry → List Derivation → Ty → Option Ty
+derived_type unsized env [] t = Some t
+derived_type unsized env (d ∷ ds) t = and_then (derived_type unsized env ds t) (step unsized env d)
 
 -- 6.7.6.3p7, p8: a parameter of array type is a pointer to its element, one of function type a pointer to it. 6.7.3p9: no array or
 -- function type has a qualifier
-abbrev pub adjusted : Ty → Option Ty
-adjusted (ArrayOf t n) = Some (PointerTo t)
-adjusted (FunctionTy t ts v) = Some (PointerTo (FunctionTy t ts v))
-adjusted (ConstOf t) = if is_adjusted t then Some (ConstOf t) else None
-adjusted t = Some t
+abbrev pub adjustment_of : Ty → Option Ty
+adjustment_of (ArrayOf t n) = Some (PointerTo t)
+adjustment_of (FunctionTy t ts v) = Some (PointerTo (FunctionTy t ts v))
+adjustment_of (ConstOf t) = if is_adjusted t then Some (ConstOf t) else None
+adjustment_of t = Some t
 
 -- the name of a parameter (6.7.6.3), if it has one
 abbrev pub name_of : Option (ℕ × ℕ) → Option ℕ
@@ -141,14 +141,14 @@ means_none (p ∷ []) = is_void_in p.t && not (is_some p.name)
 means_none _ = false
 
 -- the parameters that a list stands for (6.7.6.3p10): none, or objects
-abbrev pub proper : Bool → List Parameter → Option (List Parameter)
-proper variadic ps = if not variadic && means_none ps then Some [] else (if no_void ps then Some ps else None)
+abbrev pub proper_parameters : Bool → List Parameter → Option (List Parameter)
+proper_parameters variadic ps = if not variadic && means_none ps then Some [] else (if no_void ps then Some ps else None)
 
 -- 6.7.6.3p1: a list of parameters, and the scope that it leaves (6.2.1p4), which ends
 abbrev pub signature : Bool → After (List Parameter) → Option (After Signature)
 signature variadic a =
-    and_then (proper variadic a.value) (λ ps.
-    give (Some (record { parameters = ps; variadic = variadic; scope = innermost a.state.scopes })) (left a.state))
+    and_then (proper_parameters variadic a.value) (λ ps.
+    give (Some (record { parameters = ps; variadic = variadic; scope = innermost_scope a.state.scopes })) (behind_scope a.state))
 
 -- our choice: `...` stands in the declaration of `printf` alone (7.21.6.3p1), at file scope
 abbrev pub is_printf_declarator : List (List ℕ) → DeclaratorTree → Bool

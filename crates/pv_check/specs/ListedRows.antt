@@ -24,7 +24,7 @@ use Rattle.pv_check.specs.Specifiers.{Seen, with_type, typedef_of}
 use Rattle.pv_check.specs.State.{State, After, give}
 use Rattle.pv_check.specs.Scopes.{look, look_tag}
 use Rattle.pv_typed.specs.Constants.{and_then}
-use Rattle.pv_check.specs.Tags.{opened, completed, opened_enumeration, closed_enumeration, composite_named, enumeration_named}
+use Rattle.pv_check.specs.Tags.{tag_before_list, completion_of, opened_enumeration, closed_enumeration, composite_named, enumeration_named}
 use Rattle.pv_check.specs.TagParts.{some_members}
 use Rattle.pv_check.specs.Typing.{members, member_declarators, member_declarator, enumerators}
 
@@ -39,7 +39,7 @@ with_named seen a = give (with_type seen a.value) a.state
 
 -- what a structure or union with this tag and these members makes of the specifiers before it (6.7.2.1p8)
 abbrev pub with_completed_tag : Bool → Option ℕ → ℕ → Seen → After (List Named) → Option (After Seen)
-with_completed_tag union n number seen m = and_then (completed union n number m.value m.state) (with_named seen)
+with_completed_tag union n number seen m = and_then (completion_of union n number m.value m.state) (with_named seen)
 
 -- the same, of members of which there must be one (6.7.2.1p8)
 abbrev pub with_some_members : Bool → Option ℕ → ℕ → Seen → After (List Named) → Option (After Seen)
@@ -48,7 +48,7 @@ with_some_members union n number seen m = and_then (some_members m) (with_comple
 -- what a structure or union with a list makes of the specifiers before it (6.7.2.1)
 abbrev pub with_composite_list : Forest → Bool → Option ℕ → ListId → Seen → State → Option (After Seen)
 with_composite_list f union n l seen s =
-    and_then (opened union n s) (λ o. and_then (and_then (members (trees_at f l) o.state) some_members) (with_completed_tag union n o.value seen))
+    and_then (tag_before_list union n s) (λ o. and_then (and_then (members (trees_at f l) o.state) some_members) (with_completed_tag union n o.value seen))
 
 -- what an enumeration with a list makes of the specifiers before it (6.7.2.2)
 abbrev pub with_enumeration_list : Forest → Option ℕ → ListId → Seen → State → Option (After Seen)
@@ -57,9 +57,9 @@ with_enumeration_list f n l seen s =
     give (with_type seen (IntTy kind.Int)) (closed_enumeration n e.state)))
 
 -- what a specifier with a list makes of those before it (6.7.2.1, 6.7.2.2)
-abbrev pub listed : Forest → Listed → Seen → State → Option (After Seen)
-listed f (list.Composite union n l) seen s = with_composite_list f union n l seen s
-listed f (list.Enumeration n l) seen s = with_enumeration_list f n l seen s
+abbrev pub list_specifier : Forest → Listed → Seen → State → Option (After Seen)
+list_specifier f (list.Composite union n l) seen s = with_composite_list f union n l seen s
+list_specifier f (list.Enumeration n l) seen s = with_enumeration_list f n l seen s
 
 -- what the tag of a structure or union makes of the specifiers before it (6.7.2.3p8)
 abbrev pub with_composite_tag : Bool → ℕ → Seen → State → Option (After Seen)

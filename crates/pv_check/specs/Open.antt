@@ -6,7 +6,7 @@ use Rattle.pv_types.specs.Known.{tree, env, heading_at}
 use Rattle.pv_types.specs.Formed.{parameters_at}
 use Rattle.pv_types.specs.Ty.{Ty}
 use Rattle.pv_typed.specs.Known.{Each, AreKnown}
-use Rattle.pv_typed.specs.Tables.{Stored, whole}
+use Rattle.pv_typed.specs.Tables.{Stored, whole_unit}
 use Rattle.pv_typed.specs.Formed.{Grown}
 use Rattle.pv_check.specs.declared.scopes.Entry.{Entry}
 use Rattle.pv_check.specs.declared.scopes.Entry.TheVariants as entry
@@ -18,7 +18,7 @@ use Rattle.pv_check.specs.State.{State, After}
 
 -- the state that scopes and tables stand for; the texts of string literals, and whether what is typed is not evaluated, come with it
 abbrev pub state_of : List (List ℕ) → Bool → Raw → Stored → State
-state_of texts unevaluated s m = record { scopes = scopes_shown m.known s.scopes; unit = whole m; texts = texts; used = map used_of s.used; unevaluated = unevaluated }
+state_of texts unevaluated s m = record { scopes = scopes_shown m.known s.scopes; unit = whole_unit m; texts = texts; used = map used_of s.used; unevaluated = unevaluated }
 
 -- what a name designates is there (6.2.1p1)
 abbrev pub EntryKnown : Stored → Entry → Type 0

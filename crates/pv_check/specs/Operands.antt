@@ -9,10 +9,10 @@ use Rattle.pv_typed.specs.TypedTree.{TypedTree}
 use Rattle.pv_check.specs.declared.arms.Two.{Two}
 use Rattle.pv_check.specs.Arms.{first_operand, row_of_two}
 use Rattle.pv_check.specs.Derivations.{Steps}
-use Rattle.pv_check.specs.Rows.{operand, unevaluated, callee, Callee, called_by}
-use Rattle.pv_check.specs.RowParts.{sizeof_named, measured, cast, conditional, call, by_function}
+use Rattle.pv_check.specs.Rows.{operand, within_sizeof, callee, Callee, called_by}
+use Rattle.pv_check.specs.RowParts.{sizeof_named, operand_size, cast, conditional, call, by_function}
 use Rattle.pv_check.specs.State.{State, After}
-use Rattle.pv_check.specs.Scopes.{entered}
+use Rattle.pv_check.specs.Scopes.{in_new_scope}
 use Rattle.pv_typed.specs.Constants.{and_then}
 use Rattle.pv_check.specs.Typing.{types, type_named, arguments, parameters}
 
@@ -29,11 +29,11 @@ of_three_operands f line a b c s =
 
 -- 6.5.3.4: the size of an expression, which is not evaluated
 abbrev pub size_of_operand : Forest → ℕ → NodeId → State → Option (After TypedTree)
-size_of_operand f line a s = and_then (types (expression_at f a) (unevaluated s)) (measured line s)
+size_of_operand f line a s = and_then (types (expression_at f a) (within_sizeof s)) (operand_size line s)
 
 -- 6.5.3.4: the size of a type
 abbrev pub size_of_named_type : Forest → ℕ → NodeId → State → Option (After TypedTree)
-size_of_named_type f line n s = and_then (type_named (declaration_at f n) (unevaluated s)) (sizeof_named line s)
+size_of_named_type f line n s = and_then (type_named (declaration_at f n) (within_sizeof s)) (sizeof_named line s)
 
 -- 6.5.4: a cast to a type that is named
 abbrev pub cast_to_type : Forest → ℕ → NodeId → NodeId → State → Option (After TypedTree)
@@ -55,4 +55,4 @@ type_of_name f line specs d s = type_named (TypeName line (trees_at f specs) (op
 
 -- 6.7.6.3p5: one step more of a declarator, a function with a list of parameters
 abbrev pub with_parameter_list : Forest → ListId → Bool → Steps → State → Option (After Steps)
-with_parameter_list f l variadic x s = and_then (parameters (trees_at f l) (entered s)) (by_function variadic x)
+with_parameter_list f l variadic x s = and_then (parameters (trees_at f l) (in_new_scope s)) (by_function variadic x)

@@ -7,20 +7,20 @@ use Rattle.pv_types.specs.Ty.{Tys, NoTys, MoreTys}
 use Rattle.pv_typed.specs.Tables.{Stored}
 use Rattle.pv_typed.specs.NodeTrees.{expression_at}
 use Rattle.pv_typed.specs.TypedTree.{TypedTree}
-use Rattle.pv_check.specs.Calls.{further}
+use Rattle.pv_check.specs.Calls.{further_argument}
 use Rattle.pv_check.specs.declared.formats.Place.{Place}
 use Rattle.pv_check.specs.declared.formats.Place.TheVariants as place
 use Rattle.pv_check.specs.PrintfFormats.{is_format, is_conversion, is_long_conversion}
 use Rattle.pv_check.specs.Open.{state_of}
 use Rattle.pv_check.specs.Raw.{Raw}
 use Rattle.pv_check.specs.State.{After}
-use Rattle.pv_check.specs.Values.{assigned}
+use Rattle.pv_check.specs.Values.{as_if_assigned}
 
 -- 6.5.2.2p7: an argument, where these parameters are left
 abbrev pub one_passed : Tys → Bool → TypedTree → Option TypedTree
-one_passed NoTys true a = further a
+one_passed NoTys true a = further_argument a
 one_passed NoTys false a = None
-one_passed (MoreTys t ts) variadic a = assigned t a
+one_passed (MoreTys t ts) variadic a = as_if_assigned t a
 
 -- the arguments of an answer (6.5.2.2p4)
 abbrev pub trees_if : Stored → Option (Vec NodeId Global) → Option (List TypedTree)

@@ -11,7 +11,7 @@ use Rattle.pv_check.specs.declared.scopes.Named.{Named}
 use Rattle.pv_check.specs.declared.scopes.Named.TheVariants as named
 use Rattle.pv_check.specs.declared.scopes.Scope.{Scope as KeptScope}
 use Rattle.pv_check.specs.State.{Scope, Meaning, ObjectName, FunctionName, TypedefOf, ConstantOf, TagMeaning, CompositeTag, EnumerationTag, OpenEnumeration, Used, UsedObject, UsedFunction, PointedFunction}
-use Rattle.pv_check.specs.ScopeParts.{bound}
+use Rattle.pv_check.specs.ScopeParts.{with_meaning}
 
 -- a scope (6.2.1p4), as it is kept: what names and tags designate is kept by numbers of tables
 pub record RawScope : Type 0 where
@@ -53,11 +53,11 @@ kept_tags s = s.tags.entries
 
 -- the innermost scope with a name more or changed (6.2.1p4)
 abbrev pub with_name : Raw → ℕ → Entry → Raw
-with_name r n e = record r { scopes = set r.scopes (length r.scopes - 1) (record (raw_innermost r.scopes) { names = bound n e (raw_innermost r.scopes).names }) }
+with_name r n e = record r { scopes = set r.scopes (length r.scopes - 1) (record (raw_innermost r.scopes) { names = with_meaning n e (raw_innermost r.scopes).names }) }
 
 -- the innermost scope with a tag more or changed (6.2.1p4)
 abbrev pub with_tag : Raw → ℕ → TagEntry → Raw
-with_tag r n e = record r { scopes = set r.scopes (length r.scopes - 1) (record (raw_innermost r.scopes) { tags = bound n e (raw_innermost r.scopes).tags }) }
+with_tag r n e = record r { scopes = set r.scopes (length r.scopes - 1) (record (raw_innermost r.scopes) { tags = with_meaning n e (raw_innermost r.scopes).tags }) }
 
 -- what a name designates (6.2.1p1), with the trees of types
 abbrev pub meaning_in : Known → Entry → Meaning

@@ -10,7 +10,7 @@ use Rattle.pv_check.specs.Rows.{after_sizeof, Callee, call_by, ByValue}
 use Rattle.pv_check.specs.Binary.{binary_of}
 use Rattle.pv_check.specs.Conditional.{conditional_of}
 use Rattle.pv_check.specs.Assignment.{assign_of, comma_of}
-use Rattle.pv_check.specs.Derivations.{size_of, Steps, derived, adjusted, Parameter, with_parameter, with_step, ByPointer, ByArray, with_function, signature}
+use Rattle.pv_check.specs.Derivations.{size_of, Steps, derived_type, adjustment_of, Parameter, with_parameter, with_step, ByPointer, ByArray, with_function, signature}
 use Rattle.pv_check.specs.Primary.{with_use}
 use Rattle.pv_tree.specs.declared.operators.UnaryOperator.{UnaryOperator}
 use Rattle.pv_tree.specs.declared.operators.BinaryOperator.{BinaryOperator}
@@ -42,8 +42,8 @@ abbrev pub sizeof_named : ℕ → State → After Ty → Option (After TypedTree
 sizeof_named line before t = give (sizeof_type (env t.state) line t.value) (after_sizeof before t.state)
 
 -- 6.5.3.4: of an expression, whose value is not taken
-abbrev pub measured : ℕ → State → After TypedTree → Option (After TypedTree)
-measured line before a = give (sizeof_type (env a.state) line (type_of a.value)) (after_sizeof before a.state)
+abbrev pub operand_size : ℕ → State → After TypedTree → Option (After TypedTree)
+operand_size line before a = give (sizeof_type (env a.state) line (type_of a.value)) (after_sizeof before a.state)
 
 -- 6.5.4: of one value
 abbrev pub cast : ℕ → Ty → After TypedTree → Option (After TypedTree)
@@ -79,11 +79,11 @@ known_size a = and_then (size_of a.value) (λ n. give (Some (Some n)) a.state)
 
 -- 6.7.7p2: the type that specifiers and an abstract declarator name
 abbrev pub named_type : Ty → After Steps → Option (After Ty)
-named_type t a = give (derived false (env a.state) a.value.list t) a.state
+named_type t a = give (derived_type false (env a.state) a.value.list t) a.state
 
 -- 6.7.6.3p7: one more parameter
 abbrev pub parameter_of : Option (ℕ × ℕ) → Ty → List Parameter → After Steps → Option (After (List Parameter))
-parameter_of n t ps a = and_then (and_then (derived true (env a.state) a.value.list t) adjusted) (with_parameter ps n a.state)
+parameter_of n t ps a = and_then (and_then (derived_type true (env a.state) a.value.list t) adjustment_of) (with_parameter ps n a.state)
 
 -- 6.9p5: the function that a call names
 abbrev pub with_callee : State → ℕ → State

@@ -27,8 +27,8 @@ abbrev pub look_tag : List Scope → ℕ → Option TagMeaning
 look_tag ss n = look_by (λ (s : Scope). s.tags) ss n
 
 -- 6.2.1p4: the innermost scope
-abbrev pub innermost : List Scope → Scope
-innermost ss = slice_index_or ss (length ss - 1) no_scope
+abbrev pub innermost_scope : List Scope → Scope
+innermost_scope ss = slice_index_or ss (length ss - 1) no_scope
 
 -- 6.2.1p4: the scopes with another innermost one
 abbrev pub with_innermost : List Scope → Scope → List Scope
@@ -40,24 +40,24 @@ with_scopes s ss = record s { scopes = ss }
 
 -- 6.2.1p4: a name gets a meaning in the innermost scope, in place of the one that it has there
 abbrev pub bind : ℕ → Meaning → State → State
-bind n m s = with_scopes s (with_innermost s.scopes (record (innermost s.scopes) { names = insert_entry nat_eq (innermost s.scopes).names n m }))
+bind n m s = with_scopes s (with_innermost s.scopes (record (innermost_scope s.scopes) { names = insert_entry nat_eq (innermost_scope s.scopes).names n m }))
 
 -- 6.2.1p4: a tag gets a meaning in the innermost scope, in place of the one that it has there
 abbrev pub bind_tag : ℕ → TagMeaning → State → State
-bind_tag n m s = with_scopes s (with_innermost s.scopes (record (innermost s.scopes) { tags = insert_entry nat_eq (innermost s.scopes).tags n m }))
+bind_tag n m s = with_scopes s (with_innermost s.scopes (record (innermost_scope s.scopes) { tags = insert_entry nat_eq (innermost_scope s.scopes).tags n m }))
 
 -- 6.7p3: a name is declared once in a scope
 abbrev pub declare : ℕ → Meaning → State → Option State
-declare n m s = if is_some (find (innermost s.scopes).names n) then None else Some (bind n m s)
+declare n m s = if is_some (find (innermost_scope s.scopes).names n) then None else Some (bind n m s)
 
 -- 6.2.1p4: there is no scope but that of the file
 abbrev pub is_file_scope : State → Bool
 is_file_scope s = length s.scopes == 1
 
 -- 6.2.1p4: a new scope within the others
-abbrev pub entered : State → State
-entered s = with_scopes s (s.scopes ++ no_scope ∷ [])
+abbrev pub in_new_scope : State → State
+in_new_scope s = with_scopes s (s.scopes ++ no_scope ∷ [])
 
 -- 6.2.1p4: behind the end of the innermost scope
-abbrev pub left : State → State
-left s = with_scopes s (take (length s.scopes - 1) s.scopes)
+abbrev pub behind_scope : State → State
+behind_scope s = with_scopes s (take (length s.scopes - 1) s.scopes)

@@ -9,7 +9,7 @@ use Rattle.pv_token.specs.declared.words.Word.TheVariants as word
 use Rattle.pv_types.specs.Ty.{Ty, IntTy}
 use Rattle.pv_types.specs.Layouts.{Named, look, layout_in, is_complete_in, tag_type}
 use Rattle.pv_check.specs.State.{State, After, ConstantOf, TagMeaning, CompositeTag, EnumerationTag, OpenEnumeration, give, env}
-use Rattle.pv_check.specs.Scopes.{innermost, find, look_tag, bind_tag, declare, is_file_scope}
+use Rattle.pv_check.specs.Scopes.{innermost_scope, find, look_tag, bind_tag, declare, is_file_scope}
 use Rattle.pv_typed.specs.Constants.{and_then}
 use Rattle.pv_typed.specs.Mains.{named_main}
 use Rattle.std.specs.List.{list_all}
@@ -51,8 +51,8 @@ tag_named _ n s = None
 
 -- 6.7.2.3p7: `struct n ;` or `union n ;` is about the innermost scope, whatever n stands for outside
 abbrev pub tag_alone : Word → ℕ → State → Option State
-tag_alone word.Struct n s = and_then (composite_named false n (find (innermost s.scopes).tags n) s) (λ a. Some a.state)
-tag_alone word.Union n s = and_then (composite_named true n (find (innermost s.scopes).tags n) s) (λ a. Some a.state)
+tag_alone word.Struct n s = and_then (composite_named false n (find (innermost_scope s.scopes).tags n) s) (λ a. Some a.state)
+tag_alone word.Union n s = and_then (composite_named true n (find (innermost_scope s.scopes).tags n) s) (λ a. Some a.state)
 tag_alone _ n s = None
 
 -- 6.7.2.3p1: a tag is completed once
@@ -66,9 +66,9 @@ opened_named union n (Some (CompositeTag u k)) s = if beq u union && is_open s k
 opened_named union n (Some _) s = None
 
 -- 6.7.2.3p5, p6: what stands before `{`: a tag in the innermost scope, or without a tag a new type
-abbrev pub opened : Bool → Option ℕ → State → Option (After ℕ)
-opened union None s = Some (new_tag None union s)
-opened union (Some n) s = opened_named union n (find (innermost s.scopes).tags n) s
+abbrev pub tag_before_list : Bool → Option ℕ → State → Option (After ℕ)
+tag_before_list union None s = Some (new_tag None union s)
+tag_before_list union (Some n) s = opened_named union n (find (innermost_scope s.scopes).tags n) s
 
 -- 6.7.2.1p3: a member has a complete object type; 6.2.3p1, 6.7p3: no other member has its name
 -- worked: declared_member_rows (proofs/TagExamples)
@@ -91,13 +91,13 @@ sized_tag n t s = if nat_le (layout_in (env s) t).size (2 ^ 32) then give (Some 
 
 -- 6.7.2.1p8: the type is complete from the `}` on; none of its members' specifiers completed it
 -- worked: declared_structure_rows (proofs/TagExamples)
-abbrev pub completed : Bool → Option ℕ → ℕ → List Named → State → Option (After Ty)
-completed union n k ms s = if is_open s k then sized_tag n (tag_type union k) (with_done union k ms s) else None
+abbrev pub completion_of : Bool → Option ℕ → ℕ → List Named → State → Option (After Ty)
+completion_of union n k ms s = if is_open s k then sized_tag n (tag_type union k) (with_done union k ms s) else None
 
 -- 6.2.1p7: an enumeration's tag begins before its list; p2 of 6.7.2.3: it is declared once in a scope
 abbrev pub opened_enumeration : Option ℕ → State → Option State
 opened_enumeration None s = Some s
-opened_enumeration (Some n) s = if is_some (find (innermost s.scopes).tags n) then None else Some (bind_tag n OpenEnumeration s)
+opened_enumeration (Some n) s = if is_some (find (innermost_scope s.scopes).tags n) then None else Some (bind_tag n OpenEnumeration s)
 
 -- 6.7.2.3p3, 6.7.2.2p4: behind its list the enumeration is complete
 abbrev pub closed_enumeration : Option ℕ → State → State
@@ -110,5 +110,5 @@ may_enumerate n k s = fits_of kind.Int k && not (is_file_scope s && named_main s
 
 -- 6.7.2.2p3: an enumerator, and the value that the next one has without its own
 -- worked: declared_enumerator_rows, enumerator_value_rows (proofs/TagExamples)
-abbrev pub enumerated : ℕ → ℤ → State → Option (After ℤ)
-enumerated n k s = if may_enumerate n k s then and_then (declare n (ConstantOf k) s) (give (Some (k +ℤ pos 1))) else None
+abbrev pub enumerator_step : ℕ → ℤ → State → Option (After ℤ)
+enumerator_step n k s = if may_enumerate n k s then and_then (declare n (ConstantOf k) s) (give (Some (k +ℤ pos 1))) else None

@@ -9,27 +9,27 @@ use Rattle.pv_tree.specs.Syntax.{ExpressionTree, Name, Number, Character, Text, 
 use Rattle.pv_typed.specs.declared.nodes.IncrementOperator.TheVariants as step
 use Rattle.pv_typed.specs.TypedTree.{TypedTree, type_of, Constant}
 use Rattle.pv_check.specs.State.{State, After, ◌>>=◌, give, env}
-use Rattle.pv_check.specs.Scopes.{look, entered}
+use Rattle.pv_check.specs.Scopes.{look, in_new_scope}
 use Rattle.pv_typed.specs.Constants.{and_then}
 use Rattle.pv_check.specs.Specifiers.{Seen, with_keyword, with_type, typedef_of, nothing_seen}
-use Rattle.pv_check.specs.Tags.{is_union_word, tag_named, opened, completed, opened_enumeration, closed_enumeration, enumerated}
-use Rattle.pv_check.specs.Derivations.{Parameter as OneParameter, Steps, no_steps, declared_name, optional_name, may_be_variadic, size_of, derived, adjusted, with_parameter, with_step, ByPointer, ByArray, signature, with_function}
+use Rattle.pv_check.specs.Tags.{is_union_word, tag_named, tag_before_list, completion_of, opened_enumeration, closed_enumeration, enumerator_step}
+use Rattle.pv_check.specs.Derivations.{Parameter as OneParameter, Steps, no_steps, declared_name, optional_name, may_be_variadic, size_of, derived_type, adjustment_of, with_parameter, with_step, ByPointer, ByArray, signature, with_function}
 use Rattle.pv_check.specs.Primary.{name_of, integer_of}
 use Rattle.pv_check.specs.StringLiterals.{bytes_of_text, text_of}
-use Rattle.pv_check.specs.Rows.{operand, unevaluated, callee, called_by, integer_value, plain, member_of, after_sizeof, call_by}
+use Rattle.pv_check.specs.Rows.{operand, within_sizeof, callee, called_by, integer_value, type_without_storage, member_of, after_sizeof, call_by}
 use Rattle.pv_check.specs.Postfix.{subscript_of, member_from, arrow_from, increment_of}
 use Rattle.pv_check.specs.Unary.{unary_of, sizeof_type, cast_of}
 use Rattle.pv_check.specs.Binary.{binary_of}
 use Rattle.pv_check.specs.Conditional.{conditional_of}
 use Rattle.pv_check.specs.Assignment.{assign_of, comma_of}
-use Rattle.pv_check.specs.Values.{written}
+use Rattle.pv_check.specs.Values.{source_node}
 
 abbrev mutual
   -- 6.5: an expression's typed tree, or none where it breaks a constraint
   pub types : ExpressionTree → State → Option (After TypedTree)
   types (Name line n) s = name_of line (look s.scopes n) s
   types (Number line value decimal unsigned longs) s = give (integer_of line value decimal unsigned longs) s
-  types (Character line value) s = give (Some (written line (IntTy Int) (Constant value))) s
+  types (Character line value) s = give (Some (source_node line (IntTy Int) (Constant value))) s
   types (Text line first more) s = Some (text_of line (bytes_of_text s.texts first more) s)
   types (Paren line a) s = types a s
   types (Index line a i) s = do
@@ -47,8 +47,8 @@ abbrev mutual
   types (PreIncrement line a) s = types a s >>= λ a. give (increment_of (env a.state) line step.PreIncrement a.value) a.state
   types (PreDecrement line a) s = types a s >>= λ a. give (increment_of (env a.state) line step.PreDecrement a.value) a.state
   types (Unary line op a) s = types a s >>= λ a. give (unary_of (env a.state) line op a.value) a.state
-  types (SizeofExpr line a) s = types a (unevaluated s) >>= λ a. give (sizeof_type (env a.state) line (type_of a.value)) (after_sizeof s a.state)
-  types (SizeofType line t) s = type_named t (unevaluated s) >>= λ t. give (sizeof_type (env t.state) line t.value) (after_sizeof s t.state)
+  types (SizeofExpr line a) s = types a (within_sizeof s) >>= λ a. give (sizeof_type (env a.state) line (type_of a.value)) (after_sizeof s a.state)
+  types (SizeofType line t) s = type_named t (within_sizeof s) >>= λ t. give (sizeof_type (env t.state) line t.value) (after_sizeof s t.state)
   types (Cast line t a) s = do
     u ← type_named t s
     a ← operand (types a u.state)
@@ -84,9 +84,9 @@ abbrev mutual
   pub type_named : DeclarationTree → State → Option (After Ty)
   type_named (TypeName line specs d) s = do
     a ← specifiers specs s
-    b ← plain a
+    b ← type_without_storage a
     c ← optional_steps d b.state
-    give (derived false (env c.state) c.value.list b.value) c.state
+    give (derived_type false (env c.state) c.value.list b.value) c.state
   type_named _ s = None
 
   -- 6.7p1: specifiers in a row
@@ -104,9 +104,9 @@ abbrev mutual
   specifier (TypedefName line n) seen s = give (typedef_of (look s.scopes n) >>= with_type seen) s
   specifier (Tag line w n) seen s = do a ← tag_named w n s; give (with_type seen a.value) a.state
   specifier (Composite line w n ms) seen s = do
-    o ← opened (is_union_word w) n s
+    o ← tag_before_list (is_union_word w) n s
     m ← members ms o.state >>= λ (a : After (List Named)). if nat_lt 0 (length a.value) then Some a else None
-    a ← completed (is_union_word w) n o.value m.value m.state
+    a ← completion_of (is_union_word w) n o.value m.value m.state
     give (with_type seen a.value) a.state
   specifier (Enumeration line n es comma) seen s = do
     o ← opened_enumeration n s
@@ -123,7 +123,7 @@ abbrev mutual
   pub member_in : Tree → After (List Named) → Option (After (List Named))
   member_in (OfDeclaration (MemberDeclaration line specs ds)) m = do
     a ← specifiers specs m.state
-    b ← plain a
+    b ← type_without_storage a
     member_declarators ds b.value m.value b.state
   member_in _ m = None
 
@@ -144,7 +144,7 @@ abbrev mutual
 
   -- 6.7.2.2p3: one enumerator
   pub enumerator_in : Tree → After ℤ → Option (After ℤ)
-  enumerator_in (OfDeclaration (Enumerator line n v)) a = do b ← enumerator_value v a.value a.state; enumerated n b.value b.state
+  enumerator_in (OfDeclaration (Enumerator line n v)) a = do b ← enumerator_value v a.value a.state; enumerator_step n b.value b.state
   enumerator_in _ a = None
 
   -- 6.7.2.2p3: its value, or the next one
@@ -165,7 +165,7 @@ abbrev mutual
   steps (FunctionDeclarator line d ps v) s =
       if may_be_variadic v d s then (do
         a ← steps d s
-        b ← parameters ps (entered a.state)
+        b ← parameters ps (in_new_scope a.state)
         and_then (signature v b) (λ g. give (Some (with_function a.value g.value)) g.state))
       else None
   steps (AbstractParen line d) s = steps d s
@@ -177,7 +177,7 @@ abbrev mutual
   steps (AbstractFunction line d ps true) s = None
   steps (AbstractFunction line d ps false) s = do
     a ← optional_steps d s
-    b ← parameters ps (entered a.state)
+    b ← parameters ps (in_new_scope a.state)
     and_then (signature false b) (λ g. give (Some (with_function a.value g.value)) g.state)
 
   pub optional_steps : OptionalTree → State → Option (After Steps)
@@ -200,7 +200,7 @@ abbrev mutual
   pub parameter_in : Tree → After (List OneParameter) → Option (After (List OneParameter))
   parameter_in (OfDeclaration (Parameter line specs d)) p = do
     a ← specifiers specs p.state
-    b ← plain a
+    b ← type_without_storage a
     c ← optional_steps d b.state
-    and_then (and_then (derived true (env c.state) c.value.list b.value) adjusted) (with_parameter p.value (optional_name d) c.state)
+    and_then (and_then (derived_type true (env c.state) c.value.list b.value) adjustment_of) (with_parameter p.value (optional_name d) c.state)
   parameter_in _ p = None

@@ -6,5 +6,5 @@ use Rattle.std.specs.Prelude.{List}
 use Rattle.pv_token.specs.declared.words.Word.{Word}
 
 -- 6.7.2p2: how often each type word stands in a list
-abbrev pub counted : List Word → TypeWords
-counted ws = fold with_word no_words ws
+abbrev pub count_of_words : List Word → TypeWords
+count_of_words ws = fold with_word no_words ws

@@ -3,12 +3,12 @@ ghost use Rattle.std.specs.Prelude.{◌≡◌, ◌<◌, ◌≤◌, ℕ, Bool, Li
 ghost use Rattle.pv_types.specs.Known.{tree, trees, tys_in};
 ghost use Rattle.pv_types.specs.Formed.{parameters_at, AllBelow};
 ghost use Rattle.pv_typed.specs.Known.{Each, AreKnown};
-ghost use Rattle.pv_typed.specs.Tables.{Stored, whole};
+ghost use Rattle.pv_typed.specs.Tables.{Stored, whole_unit};
 ghost use Rattle.pv_typed.specs.NodeTrees.{expression_at, list_at, IsExpression};
 ghost use Rattle.pv_typed.specs.TypedTree.{form_of};
 ghost use Rattle.pv_typed.specs.TypedUnits.{function_at, name_at};
 ghost use Rattle.pv_check.specs.Arms.{after_node, OpenIf};
-ghost use Rattle.pv_check.specs.Calls.{further, passed, string_in, literal_in, may_pass, called};
+ghost use Rattle.pv_check.specs.Calls.{further_argument, passed_arguments, string_in, literal_in, may_pass, typed_call};
 ghost use Rattle.pv_check.specs.CallParts.{called_by_name, call_through, call_of, is_format_literal, pointed_call, library_call, program_call};
 ghost use Rattle.pv_check.specs.Kept.{Kept, expression_if};
 ghost use Rattle.pv_library.specs.LibraryNames.{library_named};
@@ -96,7 +96,7 @@ fn further(into: &mut TypedUnit, a: NodeId) -> Result<Option<NodeId>, NoMemory>
     requires known { AreKnown into.old }
     requires node { IsExpression into.old a }
     ensures node { IfOk result (λ r. IfSome r (λ v. IsExpression into.new v)) }
-    ensures typed { IfOk result (λ r. expression_if into.new r ≡ further (expression_at into.old a)) }
+    ensures typed { IfOk result (λ r. expression_if into.new r ≡ further_argument (expression_at into.old a)) }
     ensures kept { OnOk result (Kept into.old into.new) }
 {
     if is_void(into.types(), into.type_of(a)) {
@@ -142,7 +142,7 @@ fn passed(
     requires types { AllBelow (length into.old.known.terms) types.now }
     requires nodes { Each (IsExpression into.old) args.now }
     ensures nodes { IfOk result (λ r. IfSome r (λ v. Each (IsExpression into.new) v.items)) }
-    ensures typed { IfOk result (λ r. trees_if into.new r ≡ passed (tys_in (trees into.old.known) types.now) variadic (map (expression_at into.old) args.now)) }
+    ensures typed { IfOk result (λ r. trees_if into.new r ≡ passed_arguments (tys_in (trees into.old.known) types.now) variadic (map (expression_at into.old) args.now)) }
     ensures kept { OnOk result (Kept into.old into.new) }
 {
     let mut list = Vec::new(alloc);
@@ -188,7 +188,7 @@ fn literal_in(into: &TypedUnit, n: NodeId) -> Option<u32>
 /// Whether `printf` takes an argument as its format (C17 7.21.6.1p8).
 fn is_format_at(into: &TypedUnit, n: NodeId) -> bool
     requires { IsExpression into.now n }
-    ensures { result ≡ is_format_literal (whole into.now) (literal_in (form_of (expression_at into.now n))) }
+    ensures { result ≡ is_format_literal (whole_unit into.now) (literal_in (form_of (expression_at into.now n))) }
 {
     match literal_in(into, n) {
         Some(l) => is_format(into.literal(l)),
@@ -199,7 +199,7 @@ fn is_format_at(into: &TypedUnit, n: NodeId) -> bool
 /// Whether a function of the library takes the arguments, beyond their types (C17 7.21.6.1p8).
 fn may_pass(into: &TypedUnit, f: Library, args: &[NodeId]) -> bool
     requires { Each (IsExpression into.now) args.now }
-    ensures { result ≡ may_pass (whole into.now) f (map (expression_at into.now) args.now) }
+    ensures { result ≡ may_pass (whole_unit into.now) f (map (expression_at into.now) args.now) }
 {
     match f {
         Library::Printf => !args.is_empty() && is_format_at(into, args[0]),
@@ -233,7 +233,7 @@ fn library_call(
     requires target { t.0 < length into.old.known.terms }
     requires nodes { Each (IsExpression into.old) args.now }
     ensures node { IfOk result (λ r. IfSome r (λ v. IsExpression into.new v)) }
-    ensures typed { IfOk result (λ r. expression_if into.new r ≡ library_call (whole into.old) line f (tree into.old.known t.0) (Some (map (expression_at into.old) args.now))) }
+    ensures typed { IfOk result (λ r. expression_if into.new r ≡ library_call (whole_unit into.old) line f (tree into.old.known t.0) (Some (map (expression_at into.old) args.now))) }
     ensures kept { OnOk result (Kept into.old into.new) }
 {
     if !may_pass(into, f, args) {
@@ -269,7 +269,7 @@ fn program_call(
 fn library_of(into: &TypedUnit, f: u32) -> Option<Library>
     requires known { AreKnown into.now }
     requires function { f < length into.now.functions }
-    ensures { result ≡ library_named (name_at (whole into.now) (function_at (whole into.now) f).name) }
+    ensures { result ≡ library_named (name_at (whole_unit into.now) (function_at (whole_unit into.now) f).name) }
 {
     let name = into.function(f).name;
     library_named(into.names().text(name))
@@ -288,7 +288,7 @@ fn called(
     requires target { t.0 < length into.old.known.terms }
     requires nodes { Each (IsExpression into.old) args.now }
     ensures node { IfOk result (λ r. IfSome r (λ v. IsExpression into.new v)) }
-    ensures typed { IfOk result (λ r. expression_if into.new r ≡ called_by_name (whole into.old) line f (tree into.old.known t.0) (Some (map (expression_at into.old) args.now))) }
+    ensures typed { IfOk result (λ r. expression_if into.new r ≡ called_by_name (whole_unit into.old) line f (tree into.old.known t.0) (Some (map (expression_at into.old) args.now))) }
     ensures kept { OnOk result (Kept into.old into.new) }
 {
     match library_of(into, f) {
@@ -314,7 +314,7 @@ fn call_with(
     requires list { params < length into.old.known.lists }
     requires nodes { Each (IsExpression into.old) args.now }
     ensures node { IfOk result (λ r. IfSome r (λ v. IsExpression into.new v)) }
-    ensures typed { IfOk result (λ r. expression_if into.new r ≡ called_by_name (whole into.old) line f (tree into.old.known t.0) (passed (parameters_at into.old.known params) variadic (map (expression_at into.old) args.now))) }
+    ensures typed { IfOk result (λ r. expression_if into.new r ≡ called_by_name (whole_unit into.old) line f (tree into.old.known t.0) (passed_arguments (parameters_at into.old.known params) variadic (map (expression_at into.old) args.now))) }
     ensures kept { OnOk result (Kept into.old into.new) }
 {
     let Ok(types) = Vec::from_slice(alloc, into.types().param_list(params)) else {
@@ -370,7 +370,7 @@ fn call_pointer(
     requires list { params < length into.old.known.lists }
     requires nodes { Each (IsExpression into.old) args.now }
     ensures node { IfOk result (λ r. IfSome r (λ v. IsExpression into.new v)) }
-    ensures typed { IfOk result (λ r. expression_if into.new r ≡ pointed_call line (expression_at into.old a) (tree into.old.known t.0) (passed (parameters_at into.old.known params) variadic (map (expression_at into.old) args.now))) }
+    ensures typed { IfOk result (λ r. expression_if into.new r ≡ pointed_call line (expression_at into.old a) (tree into.old.known t.0) (passed_arguments (parameters_at into.old.known params) variadic (map (expression_at into.old) args.now))) }
     ensures kept { OnOk result (Kept into.old into.new) }
 {
     let types = Vec::from_slice(alloc, into.types().param_list(params))?;
@@ -393,7 +393,7 @@ fn call_through(
     requires callee { IsExpression into.old a }
     requires nodes { Each (IsExpression into.old) args.now }
     ensures node { IfOk result (λ r. IfSome r (λ v. IsExpression into.new v)) }
-    ensures typed { IfOk result (λ r. expression_if into.new r ≡ call_through (whole into.old) line (expression_at into.old a) (map (expression_at into.old) args.now)) }
+    ensures typed { IfOk result (λ r. expression_if into.new r ≡ call_through (whole_unit into.old) line (expression_at into.old a) (map (expression_at into.old) args.now)) }
     ensures kept { OnOk result (Kept into.old into.new) }
 {
     let Some(to) = pointed_by(into.types(), into.type_of(a)) else {
@@ -427,7 +427,7 @@ fn call_of(
     requires function { f < length into.old.functions }
     requires nodes { Each (IsExpression into.old) args.now }
     ensures node { IfOk result (λ r. IfSome r (λ v. IsExpression into.new v)) }
-    ensures typed { IfOk result (λ r. expression_if into.new r ≡ call_of (whole into.old) line f (map (expression_at into.old) args.now)) }
+    ensures typed { IfOk result (λ r. expression_if into.new r ≡ call_of (whole_unit into.old) line f (map (expression_at into.old) args.now)) }
     ensures kept { OnOk result (Kept into.old into.new) }
 {
     let t = into.function(f).t;
@@ -459,7 +459,7 @@ fn call_by(
     requires callee { CalleeKnown into.old c }
     requires nodes { Each (IsExpression into.old) args.now }
     ensures node { IfOk result (λ r. IfSome r (λ v. IsExpression into.new v)) }
-    ensures typed { IfOk result (λ r. expression_if into.new r ≡ call_by (whole into.old) line (callee_in into.old c) (map (expression_at into.old) args.now)) }
+    ensures typed { IfOk result (λ r. expression_if into.new r ≡ call_by (whole_unit into.old) line (callee_in into.old c) (map (expression_at into.old) args.now)) }
     ensures kept { OnOk result (Kept into.old into.new) }
 {
     match c {

@@ -4,7 +4,7 @@ ghost use Rattle.pv_types.specs.Formed.{are_adjusted, AllBelow, parameters_at};
 ghost use Rattle.pv_types.specs.Known.{Known, tree, trees, tys_in};
 ghost use Rattle.pv_types.specs.Compatible.{are_compatible};
 ghost use Rattle.pv_types.specs.Matching.{Matches, MatchAll};
-ghost use Rattle.pv_check.specs.Composite.{composite, composites};
+ghost use Rattle.pv_check.specs.Composite.{composite_of, composites};
 ghost use Rattle.std.specs.Option.{option_or};
 ghost use Rattle.pv_check.specs.Growing.{Grows};
 ghost use Rattle.pv_check.specs.Signatures.{IsSignature, signature_in};
@@ -27,7 +27,7 @@ pub fn composite(alloc: Global, types: &mut Types, a: TypeId, b: TypeId) -> Resu
     requires right { b.0 < length types.old.terms }
     requires compatible { IsTrue (are_compatible (tree types.old a.0) (tree types.old b.0)) }
     ensures known { IfOk result (λ r. r.0 < length types.new.terms) }
-    ensures tree { IfOk result (λ r. tree types.new r.0 ≡ composite (tree types.old a.0) (tree types.old b.0)) }
+    ensures tree { IfOk result (λ r. tree types.new r.0 ≡ composite_of (tree types.old a.0) (tree types.old b.0)) }
     ensures grows { OnOk result (Grows types.old types.new) }
 {
     let r = joined(alloc, types, a, b)?;
@@ -63,7 +63,7 @@ fn joined(alloc: Global, types: &mut Types, a: TypeId, b: TypeId) -> Result<Type
     requires right { b.0 < length types.old.terms }
     requires matching { Matches (tree types.old a.0) (tree types.old b.0) }
     ensures known { IfOk result (λ r. r.0 < length types.new.terms) }
-    ensures tree { IfOk result (λ r. tree types.new r.0 ≡ composite (tree types.old a.0) (tree types.old b.0)) }
+    ensures tree { IfOk result (λ r. tree types.new r.0 ≡ composite_of (tree types.old a.0) (tree types.old b.0)) }
     ensures grows { OnOk result (Grows types.old types.new) }
 {
     if a.0 == b.0 {
@@ -137,7 +137,7 @@ fn joined_function(
     requires right { IsSignature types.old (length types.old.terms) right }
     requires matching { Matches (signature_in types.old left) (signature_in types.old right) }
     ensures known { IfOk result (λ r. r.0 < length types.new.terms) }
-    ensures tree { IfOk result (λ r. tree types.new r.0 ≡ composite (signature_in types.old left) (signature_in types.old right)) }
+    ensures tree { IfOk result (λ r. tree types.new r.0 ≡ composite_of (signature_in types.old left) (signature_in types.old right)) }
     ensures grows { OnOk result (Grows types.old types.new) }
 {
     let Ok(firsts) = Vec::from_slice(alloc, types.param_list(left.params)) else {

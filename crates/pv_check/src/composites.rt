@@ -3,13 +3,13 @@ ghost use Rattle.std.specs.Prelude.{◌≡◌, ◌&&◌, ◌<◌, ◌≤◌, ◌
 ghost use Rattle.pv_types.specs.Known.{tree, trees, env, named_in, heading_at};
 ghost use Rattle.pv_types.specs.Formed.{members_in, MembersBelow, NamesDiffer, AreComplete};
 ghost use Rattle.pv_types.specs.Layouts.{look, is_complete_in, layout_in, tag_type};
-ghost use Rattle.pv_typed.specs.Tables.{Stored, whole};
+ghost use Rattle.pv_typed.specs.Tables.{Stored, whole_unit};
 ghost use Rattle.pv_typed.specs.Formed.{Grown};
 ghost use Rattle.pv_typed.specs.Known.{AreKnown};
 ghost use Rattle.pv_typed.specs.Entries.{with_completed};
 ghost use Rattle.pv_check.specs.Growing.{AreSized, IsType};
 ghost use Rattle.pv_check.specs.Open.{state_of, IsOpen, Goes, HasTag, after_type};
-ghost use Rattle.pv_check.specs.Tags.{filed_with, completed, with_member};
+ghost use Rattle.pv_check.specs.Tags.{filed_with, completion_of, with_member};
 ghost use Rattle.pv_check.specs.TagParts.{is_new_member, some_members};
 ghost use Rattle.pv_check.specs.Raw.{Raw};
 ghost use Rattle.pv_check.specs.MembersRead.{members_if, members_shown, after_members, AreMembers, members_after};
@@ -54,7 +54,7 @@ pub(crate) fn fill(
     requires complete { AreComplete (env into.old.known) (named_in (trees into.old.known) members.items) }
     requires number { t.0 < length into.old.known.terms }
     requires tree { tree into.old.known t.0 ≡ tag_type union number }
-    ensures whole { whole into.new ≡ with_completed (whole into.old) (record { tag = number; union = union; members = named_in (trees into.old.known) members.items }) }
+    ensures whole { whole_unit into.new ≡ with_completed (whole_unit into.old) (record { tag = number; union = union; members = named_in (trees into.old.known) members.items }) }
     ensures number { t.0 < length into.new.known.terms }
     ensures tree { tree into.new.known t.0 ≡ tag_type union number }
     ensures small { result ≡ nat_le (layout_in (env into.new.known) (tag_type union number)).size (2 ^ 32) }
@@ -101,7 +101,7 @@ pub(crate) fn completed(
     ensures opened { IfOk result (λ r. IfSome r (λ k. IsOpen into.new s.now)) }
     ensures goes { IfOk result (λ r. IfSome r (λ k. Goes into.old into.new)) }
     ensures known { IfOk result (λ r. IsType into.new.known r) }
-    ensures answer { IfOk result (λ r. (texts : List (List ℕ)) (u : Bool) → after_type texts u s.now into.new r ≡ completed union name number (named_in (trees into.old.known) members.items) (state_of texts u s.now into.old)) }
+    ensures answer { IfOk result (λ r. (texts : List (List ℕ)) (u : Bool) → after_type texts u s.now into.new r ≡ completion_of union name number (named_in (trees into.old.known) members.items) (state_of texts u s.now into.old)) }
 {
     let t = composite_type(into, union, number)?;
     if !is_open(into, number) {

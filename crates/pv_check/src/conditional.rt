@@ -7,7 +7,7 @@ ghost use Rattle.pv_typed.specs.Addresses.{is_null_constant};
 ghost use Rattle.pv_typed.specs.NodeTrees.{expression_at, IsExpression};
 ghost use Rattle.pv_typed.specs.Known.{AreKnown};
 ghost use Rattle.pv_check.specs.Conditional.{pointer_type, plain_type, result_type, conditional_of};
-ghost use Rattle.pv_check.specs.ConditionalParts.{type_of_chosen, pointer_to, chosen, merged};
+ghost use Rattle.pv_check.specs.ConditionalParts.{type_of_chosen, pointer_to, chosen_node, pointer_of_both};
 ghost use Rattle.pv_check.specs.Growing.{Grows, IsType, type_if};
 ghost use Rattle.pv_check.specs.Kept.{Kept, expression_if};
 
@@ -67,7 +67,7 @@ fn merged(
     requires left { t.0 < length types.old.terms }
     requires right { u.0 < length types.old.terms }
     ensures known { IfOk result (λ r. IsType types.new r) }
-    ensures tree { IfOk result (λ r. type_if types.new r ≡ merged (tree types.old t.0) (tree types.old u.0)) }
+    ensures tree { IfOk result (λ r. type_if types.new r ≡ pointer_of_both (tree types.old t.0) (tree types.old u.0)) }
     ensures grows { OnOk result (Grows types.old types.new) }
 {
     let constant = is_const(types, t) || is_const(types, u);
@@ -211,7 +211,7 @@ fn chosen(
     requires third { IsExpression into.old c }
     requires typed { t.0 < length into.old.known.terms }
     ensures node { IfOk result (λ r. IsExpression into.new r) }
-    ensures typed { IfOk result (λ r. Some (expression_at into.new r) ≡ chosen line (expression_at into.old a) (expression_at into.old b) (expression_at into.old c) (Some (tree into.old.known t.0))) }
+    ensures typed { IfOk result (λ r. Some (expression_at into.new r) ≡ chosen_node line (expression_at into.old a) (expression_at into.old b) (expression_at into.old c) (Some (tree into.old.known t.0))) }
     ensures kept { OnOk result (Kept into.old into.new) }
 {
     let Ok(second) = converted(into, t, b) else {

@@ -5,7 +5,7 @@ ghost use Rattle.pv_types.specs.KnownParts.{list_at};
 ghost use Rattle.pv_types.specs.Formed.{parameters_at, IsBuilt, AllBelow};
 ghost use Rattle.pv_types.specs.Layouts.{is_complete_in, layout_in};
 ghost use Rattle.pv_check.specs.Growing.{Grows, AreSized, IsType, type_if};
-ghost use Rattle.pv_check.specs.Derivations.{step, derived, array_of};
+ghost use Rattle.pv_check.specs.Derivations.{step, derived_type, array_of};
 ghost use Rattle.pv_check.specs.DerivationParts.{pointer_to, function_of};
 ghost use Rattle.pv_check.specs.Stepping.{step_in, IsStep, AreSteps, steps_in};
 
@@ -145,7 +145,7 @@ pub(crate) fn derived(
     requires place { from ≤ length steps.now }
     requires sized { AreSized types.old }
     ensures known { IfOk result (λ r. IsType types.new r) }
-    ensures tree { IfOk result (λ r. type_if types.new r ≡ derived unsized_may_be (env types.old) (steps_in types.old (drop from steps.now)) (tree types.old t.0)) }
+    ensures tree { IfOk result (λ r. type_if types.new r ≡ derived_type unsized_may_be (env types.old) (steps_in types.old (drop from steps.now)) (tree types.old t.0)) }
     ensures grows { OnOk result (Grows types.old types.new) }
 {
     if from >= steps.len() {

@@ -1,6 +1,6 @@
 // Enumerations (C17 6.7.2.2): their tags and their enumerators.
 ghost use Rattle.std.specs.Prelude.{◌≡◌, ◌<◌, ◌≤◌, ◌+ℤ◌, pos, ℕ, ℤ, Bool, List, length, IfOk, OnOk, IfSome, IsTrue, Some, None};
-ghost use Rattle.pv_typed.specs.Tables.{Stored, whole};
+ghost use Rattle.pv_typed.specs.Tables.{Stored, whole_unit};
 ghost use Rattle.pv_check.specs.declared.scopes.TagEntry.TheVariants as tag;
 ghost use Rattle.pv_check.specs.Declarators.{after_value};
 ghost use Rattle.pv_check.specs.Growing.{IsType};
@@ -10,7 +10,7 @@ ghost use Rattle.pv_check.specs.SeenAfter.{after_seen};
 ghost use Rattle.pv_check.specs.Specifiers.{with_type};
 ghost use Rattle.pv_check.specs.State.{give};
 ghost use Rattle.pv_check.specs.WordRows.{total};
-ghost use Rattle.pv_check.specs.Tags.{opened_enumeration, closed_enumeration, may_enumerate, enumerated};
+ghost use Rattle.pv_check.specs.Tags.{opened_enumeration, closed_enumeration, may_enumerate, enumerator_step};
 ghost use Rattle.pv_num.specs.declared.kinds.IntKind.TheVariants as kind;
 ghost use Rattle.pv_num.specs.Kinds.{fits_of};
 ghost use Rattle.pv_types.specs.Ty.{IntTy};
@@ -93,7 +93,7 @@ pub(crate) fn enumerated(
 ) -> Result<Option<i128>, NoMemory>
     requires opened { IsOpen into.now s.old }
     ensures opened { OnOk result (IsOpen into.now s.new) }
-    ensures answer { IfOk result (λ r. (texts : List (List ℕ)) (u : Bool) → after_value texts u s.new into.now r ≡ enumerated n k (state_of texts u s.old into.now)) }
+    ensures answer { IfOk result (λ r. (texts : List (List ℕ)) (u : Bool) → after_value texts u s.new into.now r ≡ enumerator_step n k (state_of texts u s.old into.now)) }
 {
     if !may_enumerate(s, into, n, k) {
         return Ok(None);

@@ -13,7 +13,7 @@ ghost use Rattle.pv_check.specs.SeenAfter.{after_seen};
 ghost use Rattle.pv_check.specs.Specifiers.{with_type};
 ghost use Rattle.pv_check.specs.State.{give};
 ghost use Rattle.pv_typed.specs.Constants.{and_then};
-ghost use Rattle.pv_check.specs.Tags.{opened, completed, opened_enumeration, closed_enumeration};
+ghost use Rattle.pv_check.specs.Tags.{tag_before_list, completion_of, opened_enumeration, closed_enumeration};
 ghost use Rattle.pv_check.specs.TagParts.{some_members};
 ghost use Rattle.pv_check.specs.Typing.{members, member_in, member_declarators, member_declarator, enumerators, enumerator_in, enumerator_value};
 ghost use Rattle.pv_check.specs.WordRows.{total};

@@ -4,7 +4,7 @@ ghost use Rattle.pv_types.specs.Ty.{IntTy};
 ghost use Rattle.pv_num.specs.declared.kinds.IntKind.TheVariants.{Int};
 ghost use Rattle.pv_typed.specs.TypedTree.{Object, Function, Constant};
 ghost use Rattle.pv_typed.specs.TypedUnits.{object_at, function_at, name_at};
-ghost use Rattle.pv_typed.specs.Tables.{whole};
+ghost use Rattle.pv_typed.specs.Tables.{whole_unit};
 ghost use Rattle.pv_typed.specs.NodeTrees.{expression_at, IsExpression};
 ghost use Rattle.pv_typed.specs.Known.{AreKnown};
 ghost use Rattle.pv_check.specs.State.{ObjectName, FunctionName, ConstantOf};
@@ -16,7 +16,7 @@ ghost use Rattle.pv_check.specs.Raw.{scopes_shown, meaning_if, used_of};
 ghost use Rattle.pv_check.specs.Open.{state_of, IsOpen, Goes, EntryKnown};
 ghost use Rattle.pv_check.specs.Arms.{after_node, OpenIf};
 ghost use Rattle.pv_check.specs.Kept.{Kept, expression_if};
-ghost use Rattle.pv_check.specs.Values.{written};
+ghost use Rattle.pv_check.specs.Values.{source_node};
 
 use crate::scopes::{Entry, Named, Scopes};
 use crate::values::{add, intern};
@@ -31,7 +31,7 @@ pub(crate) fn object(into: &mut TypedUnit, line: u32, o: u32) -> Result<Option<N
     requires known { AreKnown into.old }
     requires object { o < length into.old.objects }
     ensures node { IfOk result (λ r. IfSome r (λ v. IsExpression into.new v)) }
-    ensures typed { IfOk result (λ r. expression_if into.new r ≡ Some (written line (object_at (whole into.old) o).t (Object o))) }
+    ensures typed { IfOk result (λ r. expression_if into.new r ≡ Some (source_node line (object_at (whole_unit into.old) o).t (Object o))) }
     ensures kept { OnOk result (Kept into.old into.new) }
 {
     let t = into.object(o).t;
@@ -47,7 +47,7 @@ pub(crate) fn enumerator(
 ) -> Result<Option<NodeId>, NoMemory>
     requires known { AreKnown into.old }
     ensures node { IfOk result (λ r. IfSome r (λ v. IsExpression into.new v)) }
-    ensures typed { IfOk result (λ r. expression_if into.new r ≡ Some (written line (IntTy Int) (Constant value))) }
+    ensures typed { IfOk result (λ r. expression_if into.new r ≡ Some (source_node line (IntTy Int) (Constant value))) }
     ensures kept { OnOk result (Kept into.old into.new) }
 {
     let Ok(t) = intern(into, Term::Int(IntKind::Int)) else {
@@ -109,7 +109,7 @@ fn named_constant(
 fn is_of_library(into: &TypedUnit, f: u32) -> bool
     requires known { AreKnown into.now }
     requires function { f < length into.now.functions }
-    ensures { result ≡ is_some (library_named (name_at (whole into.now) (function_at (whole into.now) f).name)) }
+    ensures { result ≡ is_some (library_named (name_at (whole_unit into.now) (function_at (whole_unit into.now) f).name)) }
 {
     let name = into.function(f).name;
     library_named(into.names().text(name)).is_some()
@@ -120,7 +120,7 @@ fn designator(into: &mut TypedUnit, line: u32, f: u32) -> Result<Option<NodeId>,
     requires known { AreKnown into.old }
     requires function { f < length into.old.functions }
     ensures node { IfOk result (λ r. IfSome r (λ v. IsExpression into.new v)) }
-    ensures typed { IfOk result (λ r. expression_if into.new r ≡ Some (written line (function_at (whole into.old) f).t (Function f))) }
+    ensures typed { IfOk result (λ r. expression_if into.new r ≡ Some (source_node line (function_at (whole_unit into.old) f).t (Function f))) }
     ensures kept { OnOk result (Kept into.old into.new) }
 {
     let t = into.function(f).t;

@@ -6,14 +6,14 @@ ghost use Rattle.pv_types.specs.Known.{Known, tree, trees, tys_in, env};
 ghost use Rattle.pv_typed.specs.Entries.{with_object};
 ghost use Rattle.pv_typed.specs.Known.{Each, AreKnown};
 ghost use Rattle.pv_typed.specs.Formed.{Grown};
-ghost use Rattle.pv_typed.specs.Tables.{Stored, whole};
+ghost use Rattle.pv_typed.specs.Tables.{Stored, whole_unit};
 ghost use Rattle.pv_check.specs.Declarators.{parameter_shown, parameters_shown, signature_shown, signature_if, steps_shown, parameters_if, after_parameter, after_steps, parameters_after, with_parameter_of_type, parameter_from, ParameterKnown, SignatureKnown, StepsKnown, KnownSteps};
-ghost use Rattle.pv_check.specs.Derivations.{Parameter as WholeParameter, Signature as WholeSignature, derived, adjusted, with_parameter, means_none, no_void, proper, parameter_types, nearest};
+ghost use Rattle.pv_check.specs.Derivations.{Parameter as WholeParameter, Signature as WholeSignature, derived_type, adjustment_of, with_parameter, means_none, no_void, proper_parameters, parameter_types, nearest_parameters};
 ghost use Rattle.pv_check.specs.Growing.{AreSized, Grows, IsType, type_if};
 ghost use Rattle.pv_check.specs.Open.{state_of, IsOpen, Goes};
 ghost use Rattle.pv_check.specs.Raw.{Raw};
 ghost use Rattle.pv_check.specs.RowParts.{parameter_of, by_function};
-ghost use Rattle.pv_check.specs.Scopes.{entered};
+ghost use Rattle.pv_check.specs.Scopes.{in_new_scope};
 ghost use Rattle.pv_typed.specs.Constants.{and_then};
 ghost use Rattle.pv_check.specs.declared.derivations.Step.TheVariants.{Function};
 ghost use Rattle.pv_check.specs.Stepping.{AreSteps, steps_in};
@@ -54,7 +54,7 @@ pub struct Signature {
 fn adjusted(types: &mut Types, t: TypeId) -> Result<Option<TypeId>, NoMemory>
     requires { t.0 < length types.old.terms }
     ensures known { IfOk result (λ r. IsType types.new r) }
-    ensures tree { IfOk result (λ r. type_if types.new r ≡ adjusted (tree types.old t.0)) }
+    ensures tree { IfOk result (λ r. type_if types.new r ≡ adjustment_of (tree types.old t.0)) }
     ensures grows { OnOk result (Grows types.old types.new) }
 {
     match types.view(t) {
@@ -87,7 +87,7 @@ fn parameter_type(
     requires steps { AreSteps types.old steps.now }
     requires sized { AreSized types.old }
     ensures known { IfOk result (λ r. IsType types.new r) }
-    ensures tree { IfOk result (λ r. type_if types.new r ≡ and_then (derived true (env types.old) (steps_in types.old steps.now) (tree types.old base.0)) adjusted) }
+    ensures tree { IfOk result (λ r. type_if types.new r ≡ and_then (derived_type true (env types.old) (steps_in types.old steps.now) (tree types.old base.0)) adjustment_of) }
     ensures grows { OnOk result (Grows types.old types.new) }
 {
     let Ok(found) = derived(types, true, steps, 0, base) else {
@@ -113,8 +113,8 @@ fn parameter_type_in(
     requires base { base.0 < length into.old.known.terms }
     requires steps { AreSteps into.old.known steps.now }
     ensures known { IfOk result (λ r. IsType into.new.known r) }
-    ensures tree { IfOk result (λ r. type_if into.new.known r ≡ and_then (derived true (env into.old.known) (steps_in into.old.known steps.now) (tree into.old.known base.0)) adjusted) }
-    ensures whole { OnOk result (whole into.new ≡ whole into.old) }
+    ensures tree { IfOk result (λ r. type_if into.new.known r ≡ and_then (derived_type true (env into.old.known) (steps_in into.old.known steps.now) (tree into.old.known base.0)) adjustment_of) }
+    ensures whole { OnOk result (whole_unit into.new ≡ whole_unit into.old) }
     ensures goes { OnOk result (Goes into.old into.new) }
 {
     let r = parameter_type(into.types_mut(), steps, base)?;
@@ -128,7 +128,7 @@ fn parameter_object(into: &mut TypedUnit, n: u32, line: u32, t: TypeId) -> Resul
     ensures number { IfOk result (λ o. o ≡ length into.old.objects) }
     ensures more { OnOk result (length into.new.objects ≡ length into.old.objects + 1) }
     ensures types { OnOk result (into.new.known ≡ into.old.known) }
-    ensures whole { OnOk result (whole into.new ≡ with_object (whole into.old) (record { name = n + 2; t = tree into.old.known t.0; line = line; lasting = false; braced = false; inits = [] })) }
+    ensures whole { OnOk result (whole_unit into.new ≡ with_object (whole_unit into.old) (record { name = n + 2; t = tree into.old.known t.0; line = line; lasting = false; braced = false; inits = [] })) }
     ensures goes { OnOk result (Goes into.old into.new) }
 {
     let name = n as u64 + 2;
@@ -236,7 +236,7 @@ fn no_void(types: &Types, ps: &[Parameter]) -> bool
 fn proper(into: &TypedUnit, variadic: bool, ps: Vec<Parameter>) -> Option<Vec<Parameter>>
     requires { Each (ParameterKnown into.now) ps.items }
     ensures known { IfSome result (λ v. Each (ParameterKnown into.now) v.items) }
-    ensures answer { parameters_if into.now.known result ≡ proper variadic (parameters_shown into.now.known ps.items) }
+    ensures answer { parameters_if into.now.known result ≡ proper_parameters variadic (parameters_shown into.now.known ps.items) }
 {
     if !variadic && means_none(into.types(), &ps) {
         let mut none = ps;
@@ -288,7 +288,7 @@ fn parameter_types(alloc: Global, into: &mut TypedUnit, ps: &[Parameter]) -> Res
     requires parameters { Each (ParameterKnown into.old) ps.now }
     ensures number { IfOk result (λ p. p < length into.new.known.lists) }
     ensures parameters { IfOk result (λ p. parameters_at into.new.known p ≡ parameter_types (parameters_shown into.old.known ps.now)) }
-    ensures whole { OnOk result (whole into.new ≡ whole into.old) }
+    ensures whole { OnOk result (whole_unit into.new ≡ whole_unit into.old) }
     ensures goes { OnOk result (Goes into.old into.new) }
 {
     let list = unqualified_types(alloc, into.types(), ps)?;
@@ -307,7 +307,7 @@ fn is_first(steps: &[Step]) -> bool
 /// One step more, a function; its list of parameters is the declarator's where no step stands before it (C17 6.9.1p2).
 fn with_signature(x: Steps, params: u32, g: Signature) -> Result<Steps, NoMemory>
     ensures list { IfOk result (λ r. r.list.items ≡ x.list.items ++ (Function params g.variadic ∷ [])) }
-    ensures signature { IfOk result (λ r. (m : Known) → signature_if m r.signature ≡ nearest (steps_in m x.list.items) (signature_if m x.signature) (signature_shown m g)) }
+    ensures signature { IfOk result (λ r. (m : Known) → signature_if m r.signature ≡ nearest_parameters (steps_in m x.list.items) (signature_if m x.signature) (signature_shown m g)) }
     ensures known { IfOk result (λ r. (m : Stored) → SignatureKnown m g → IfSome x.signature (SignatureKnown m) → IfSome r.signature (SignatureKnown m)) }
 {
     let nearest = is_first(&x.list);
@@ -333,7 +333,7 @@ pub(crate) fn entered(s: &mut Scopes, into: &TypedUnit) -> Result<(), NoMemory>
     requires opened { IsOpen into.now s.old }
     ensures opened { OnOk result (IsOpen into.now s.new) }
     ensures deeper { OnOk result (length s.new.scopes ≡ length s.old.scopes + 1) }
-    ensures answer { OnOk result ((texts : List (List ℕ)) (u : Bool) → state_of texts u s.new into.now ≡ entered (state_of texts u s.old into.now)) }
+    ensures answer { OnOk result ((texts : List (List ℕ)) (u : Bool) → state_of texts u s.new into.now ≡ in_new_scope (state_of texts u s.old into.now)) }
 {
     s.enter()?;
     Ok(())

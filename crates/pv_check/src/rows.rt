@@ -1,7 +1,7 @@
 //! What an expression makes of its typed operands, beside the scopes, which stay open.
 ghost use Rattle.std.specs.Prelude.{◌≡◌, Bool, IfOk, IfSome, OnOk, Some, List, ℕ};
 ghost use Rattle.pv_typed.specs.Known.{AreKnown};
-ghost use Rattle.pv_typed.specs.Tables.{whole};
+ghost use Rattle.pv_typed.specs.Tables.{whole_unit};
 ghost use Rattle.pv_typed.specs.NodeTrees.{expression_at, IsExpression};
 ghost use Rattle.pv_typed.specs.Constants.{and_then};
 ghost use Rattle.pv_check.specs.Arms.{after_node, OpenIf, row_of_one, row_of_two, operand_after, conditional_from};
@@ -37,7 +37,7 @@ fn arrow_node(
     requires small { AreSmall into.old.known }
     requires node { IsExpression into.old a }
     ensures node { IfOk result (λ r. IfSome r (λ v. IsExpression into.new v)) }
-    ensures typed { IfOk result (λ r. expression_if into.new r ≡ and_then (value_of (env_of into.old) (expression_at into.old a)) (arrow_from (whole into.old).completed line name)) }
+    ensures typed { IfOk result (λ r. expression_if into.new r ≡ and_then (value_of (env_of into.old) (expression_at into.old a)) (arrow_from (whole_unit into.old).completed line name)) }
     ensures kept { OnOk result (Kept into.old into.new) }
 {
     let Ok(found) = value(into, a) else {

@@ -3,7 +3,7 @@ ghost use Rattle.std.specs.Prelude.{◌≡◌, ◌<◌, ◌++◌, ◌∷◌, ◌
 ghost use Rattle.std.specs.Map.{lookup};
 ghost use Rattle.pv_check.specs.Scopes.{find, look_by};
 ghost use Rattle.std.specs.Option.{option_or};
-ghost use Rattle.pv_check.specs.ScopeParts.{bound};
+ghost use Rattle.pv_check.specs.ScopeParts.{with_meaning};
 ghost use Rattle.pv_check.specs.declared.scopes.Entry.{Entry};
 ghost use Rattle.pv_check.specs.Raw.{Raw, RawScope, no_raw, raw_of, raw_innermost, raw_names, raw_tags, kept_names, kept_tags, with_name, with_tag, entry_of_tag, tag_if};
 
@@ -88,7 +88,7 @@ fn find<V: Copy>(map: &IndexMap<u32, V>, name: u32) -> Option<V>
 
 /// Gives a name a meaning in a map.
 fn bind<V: Copy + Drop>(map: &mut IndexMap<u32, V>, name: u32, value: V) -> Result<(), NoMemory>
-    ensures bound { OnOk result (map.new.entries ≡ bound name value map.old.entries) }
+    ensures bound { OnOk result (map.new.entries ≡ with_meaning name value map.old.entries) }
 {
     map.insert(name, value)?;
     Ok(())

@@ -5,7 +5,7 @@ ghost use Rattle.pv_types.specs.Ty.{Ty, IntTy};
 ghost use Rattle.pv_check.specs.Growing.{Grows, IsType, type_if};
 ghost use Rattle.pv_check.specs.Words.{no_words};
 ghost use Rattle.pv_check.specs.WordRows.{total, base_of};
-ghost use Rattle.pv_check.specs.Specifiers.{with_storage, with_keyword, with_type, base_type, specified, nothing_seen};
+ghost use Rattle.pv_check.specs.Specifiers.{with_storage, with_keyword, with_type, base_type, specification_of, nothing_seen};
 ghost use Rattle.pv_check.specs.Seeing.{seen_in, seen_if, specified_if, IsSpecified};
 
 use crate::interning::interned;
@@ -226,7 +226,7 @@ fn base_type(
 pub(crate) fn taken_together(types: &mut Types, seen: Seen) -> Result<Option<Specified>, NoMemory>
     requires { IsType types.old seen.named }
     ensures known { IfOk result (λ r. IsSpecified types.new r) }
-    ensures value { IfOk result (λ r. specified_if types.new r ≡ specified (seen_in types.old seen)) }
+    ensures value { IfOk result (λ r. specified_if types.new r ≡ specification_of (seen_in types.old seen)) }
     ensures grows { OnOk result (Grows types.old types.new) }
 {
     let Some(base) = base_type(types, seen.words, seen.named)? else {

@@ -2,7 +2,7 @@
 ghost use Rattle.std.specs.Prelude.{◌≡◌, ◌<◌, ◌≤◌, ◌+◌, ◌-◌, ◌^◌, ℕ, Some, None, length, IfOk, OnOk, IfSome, IsTrue};
 ghost use Rattle.pv_tree.specs.Tables.{Forest, Is, HasList, is_specifier, is_declaration, specifier_at, trees_at};
 ghost use Rattle.pv_tree.specs.Children.{HasSpecChildren};
-ghost use Rattle.pv_check.specs.ListedRows.{listed, list_of, is_unlisted, is_no_keyword, with_composite_tag, with_enumeration_tag, with_typedef_name};
+ghost use Rattle.pv_check.specs.ListedRows.{list_specifier, list_of, is_unlisted, is_no_keyword, with_composite_tag, with_enumeration_tag, with_typedef_name};
 ghost use Rattle.pv_check.specs.Specifiers.{Seen as WhatIsSeen, typedef_of, with_type};
 ghost use Rattle.pv_check.specs.State.{State, give};
 ghost use Rattle.pv_check.specs.Scopes.{look, look_tag};
@@ -150,7 +150,7 @@ pub(crate) enum Listed {
 
 /// The list that a specifier has, if it has one.
 fn listed_of(spec: Spec) -> Option<Listed>
-    ensures value { IfSome result (λ x. (f : Forest) (line : ℕ) (seen : WhatIsSeen) (z : State) → specifier (specifier_of f line spec) seen z ≡ listed f x seen z) }
+    ensures value { IfSome result (λ x. (f : Forest) (line : ℕ) (seen : WhatIsSeen) (z : State) → specifier (specifier_of f line spec) seen z ≡ list_specifier f x seen z) }
     ensures lists { (f : Forest) (k : ℕ) → HasSpecChildren f k spec → IfSome result (λ x. HasList f k is_declaration (list_of x)) }
     ensures others { result ≡ None → IsTrue (is_unlisted spec) }
 {
@@ -282,7 +282,7 @@ fn listed_specifier(
     ensures goes { IfOk result (λ r. IfSome r (λ y. Goes into.old into.new)) }
     ensures known { IfOk result (λ r. IfSome r (λ y. IsType into.new.known y.named)) }
     ensures bounded { IfOk result (λ r. IfSome r (λ y. total y.words ≤ total seen.words)) }
-    ensures answer { IfOk result (λ r. after_seen t.now.texts unevaluated s.new into.new r ≡ listed u.now.forest x (seen_in into.old.known seen) (state_of t.now.texts unevaluated s.old into.old)) }
+    ensures answer { IfOk result (λ r. after_seen t.now.texts unevaluated s.new into.new r ≡ list_specifier u.now.forest x (seen_in into.old.known seen) (state_of t.now.texts unevaluated s.old into.old)) }
 {
     match x {
         Listed::Composite { union, name, list } => {

@@ -4,7 +4,7 @@ ghost use Rattle.std.specs.Prelude.{◌≡◌, ◌&&◌, ◌<◌, ◌≤◌, ◌
 ghost use Rattle.pv_types.specs.Known.{heading_at, tree, trees, tree_in, env};
 ghost use Rattle.pv_types.specs.Formed.{IsKnown, members_in};
 ghost use Rattle.pv_types.specs.Layouts.{tag_type, look};
-ghost use Rattle.pv_typed.specs.Tables.{Stored, whole};
+ghost use Rattle.pv_typed.specs.Tables.{Stored, whole_unit};
 ghost use Rattle.pv_typed.specs.Formed.{Grown};
 ghost use Rattle.pv_typed.specs.Known.{AreKnown};
 ghost use Rattle.pv_typed.specs.Entries.{with_heading};
@@ -12,7 +12,7 @@ ghost use Rattle.pv_check.specs.Growing.{AreSized, is_sized, IsType};
 ghost use Rattle.pv_check.specs.Raw.{Raw, tag_meaning_if};
 ghost use Rattle.pv_check.specs.Open.{state_of, IsOpen, Goes, HasTag, TagKnown, after_type, after_number};
 ghost use Rattle.pv_check.specs.Scopes.{look_tag};
-ghost use Rattle.pv_check.specs.Tags.{declared_new, composite_named, enumeration_named, is_open, opened_named, opened};
+ghost use Rattle.pv_check.specs.Tags.{declared_new, composite_named, enumeration_named, is_open, opened_named, tag_before_list};
 
 use crate::interning::interned;
 use crate::scopes::{Scopes, TagEntry};
@@ -27,7 +27,7 @@ pub(crate) fn interned_in(into: &mut TypedUnit, term: Term) -> Result<TypeId, No
     requires sized { AreSized into.old.known → IsTrue (is_sized (env into.old.known) (tree_in into.old.known.lists (trees into.old.known) term)) }
     ensures known { IfOk result (λ r. r.0 < length into.new.known.terms) }
     ensures tree { IfOk result (λ r. tree into.new.known r.0 ≡ tree_in into.new.known.lists (trees into.new.known) term) }
-    ensures whole { OnOk result (whole into.new ≡ whole into.old) }
+    ensures whole { OnOk result (whole_unit into.new ≡ whole_unit into.old) }
     ensures goes { OnOk result (Goes into.old into.new) }
 {
     let r = interned(into.types_mut(), term)?;
@@ -47,7 +47,7 @@ fn new_tag(into: &mut TypedUnit, name: Option<u32>, union: bool) -> Result<u32, 
     requires known { AreKnown into.old }
     ensures number { IfOk result (λ n. n ≡ length into.old.known.tags) }
     ensures known { IfOk result (λ n. HasTag into.new union n) }
-    ensures whole { OnOk result (whole into.new ≡ with_heading (whole into.old) (record { name = name; union = union })) }
+    ensures whole { OnOk result (whole_unit into.new ≡ with_heading (whole_unit into.old) (record { name = name; union = union })) }
     ensures goes { OnOk result (Goes into.old into.new) }
 {
     let n = into.tag(name, union)?;
@@ -83,7 +83,7 @@ pub(crate) fn composite_type(
     requires tag { HasTag into.old union number }
     ensures known { IfOk result (λ r. r.0 < length into.new.known.terms) }
     ensures tree { IfOk result (λ r. tree into.new.known r.0 ≡ tag_type union number) }
-    ensures whole { OnOk result (whole into.new ≡ whole into.old) }
+    ensures whole { OnOk result (whole_unit into.new ≡ whole_unit into.old) }
     ensures goes { OnOk result (Goes into.old into.new) }
 {
     if union {
@@ -248,7 +248,7 @@ pub(crate) fn opened(
     ensures opened { OnOk result (IsOpen into.new s.new) }
     ensures goes { OnOk result (Goes into.old into.new) }
     ensures known { IfOk result (λ r. IfSome r (λ n. HasTag into.new union n)) }
-    ensures answer { IfOk result (λ r. (texts : List (List ℕ)) (u : Bool) → after_number texts u s.new into.new r ≡ opened union name (state_of texts u s.old into.old)) }
+    ensures answer { IfOk result (λ r. (texts : List (List ℕ)) (u : Bool) → after_number texts u s.new into.new r ≡ tag_before_list union name (state_of texts u s.old into.old)) }
 {
     match name {
         None => {

@@ -4,15 +4,15 @@ ghost use Rattle.pv_types.specs.Ty.{IntTy, ArrayOf};
 ghost use Rattle.pv_num.specs.declared.kinds.IntKind.TheVariants.{Char};
 ghost use Rattle.pv_typed.specs.TypedTree.{String};
 ghost use Rattle.pv_typed.specs.Adding.{with_literal};
-ghost use Rattle.pv_typed.specs.Tables.{whole};
+ghost use Rattle.pv_typed.specs.Tables.{whole_unit};
 ghost use Rattle.pv_typed.specs.NodeTrees.{expression_at, IsExpression};
 ghost use Rattle.pv_typed.specs.Formed.{Grown};
 ghost use Rattle.pv_typed.specs.Known.{AreKnown};
 ghost use Rattle.pv_check.specs.Open.{state_of, IsOpen, Goes};
 ghost use Rattle.pv_check.specs.Arms.{after_node, OpenIf};
 ghost use Rattle.pv_check.specs.Kept.{Kept, expression_if};
-ghost use Rattle.pv_check.specs.StringLiterals.{joined, bytes_of_text, text_of};
-ghost use Rattle.pv_check.specs.Values.{written};
+ghost use Rattle.pv_check.specs.StringLiterals.{concatenation_of, bytes_of_text, text_of};
+ghost use Rattle.pv_check.specs.Values.{source_node};
 
 use crate::scopes::Scopes;
 use crate::values::{add, intern};
@@ -30,7 +30,7 @@ fn literal_node(into: &mut TypedUnit, line: u32, l: u32, len: u64) -> Result<Nod
     requires some { 0 < len }
     requires few { len < 2 ^ 32 }
     ensures node { IfOk result (λ r. IsExpression into.new r) }
-    ensures typed { IfOk result (λ r. expression_at into.new r ≡ written line (ArrayOf (IntTy Char) (Some len)) (String l)) }
+    ensures typed { IfOk result (λ r. expression_at into.new r ≡ source_node line (ArrayOf (IntTy Char) (Some len)) (String l)) }
     ensures kept { OnOk result (Kept into.old into.new) }
 {
     let Ok(char) = intern(into, Term::Int(IntKind::Char)) else {

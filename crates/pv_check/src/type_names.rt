@@ -1,13 +1,13 @@
 //! Type names (C17 6.7.7), and what specifiers and the steps of declarators come to.
 ghost use Rattle.std.specs.Prelude.{◌≡◌, ◌<◌, ◌≤◌, Bool, List, length, Some, None, IfOk, OnOk, false, IfSome, ℕ};
 ghost use Rattle.pv_types.specs.Known.{tree, env};
-ghost use Rattle.pv_typed.specs.Tables.{whole};
+ghost use Rattle.pv_typed.specs.Tables.{whole_unit};
 ghost use Rattle.pv_typed.specs.Known.{AreKnown};
-ghost use Rattle.pv_check.specs.Derivations.{derived};
+ghost use Rattle.pv_check.specs.Derivations.{derived_type};
 ghost use Rattle.pv_check.specs.Growing.{AreSized, IsType, type_if};
 ghost use Rattle.pv_check.specs.Open.{IsOpen, Goes, state_of, after_type};
 ghost use Rattle.pv_check.specs.Seeing.{seen_in, specified_if, IsSpecified};
-ghost use Rattle.pv_check.specs.Specifiers.{specified};
+ghost use Rattle.pv_check.specs.Specifiers.{specification_of};
 ghost use Rattle.pv_check.specs.SpecifierParts.{without_storage};
 ghost use Rattle.pv_check.specs.State.{State, give};
 ghost use Rattle.pv_typed.specs.Constants.{and_then};
@@ -15,7 +15,7 @@ ghost use Rattle.pv_check.specs.WordRows.{base_of};
 ghost use Rattle.pv_check.specs.Stepping.{steps_in, AreSteps};
 ghost use Rattle.pv_tree.specs.Nodes.{specifier_of};
 ghost use Rattle.pv_tree.specs.Tables.{Forest, Is, is_declaration, declaration_at, HasList, is_declarator, is_specifier, trees_at, optional_at};
-ghost use Rattle.pv_check.specs.Rows.{plain};
+ghost use Rattle.pv_check.specs.Rows.{type_without_storage};
 ghost use Rattle.pv_check.specs.Typing.{type_named, specifiers};
 ghost use Rattle.pv_tree.specs.Syntax.{TypeName, OfSpecifier, NoTrees, Then};
 ghost use Rattle.pv_check.specs.Operands.{type_of_name};
@@ -37,8 +37,8 @@ pub fn concluded(into: &mut TypedUnit, seen: Seen) -> Result<Option<Specified>, 
     requires known { AreKnown into.old }
     requires named { IsType into.old.known seen.named }
     ensures known { IfOk result (λ r. IsSpecified into.new.known r) }
-    ensures value { IfOk result (λ r. specified_if into.new.known r ≡ specified (seen_in into.old.known seen)) }
-    ensures whole { OnOk result (whole into.new ≡ whole into.old) }
+    ensures value { IfOk result (λ r. specified_if into.new.known r ≡ specification_of (seen_in into.old.known seen)) }
+    ensures whole { OnOk result (whole_unit into.new ≡ whole_unit into.old) }
     ensures goes { OnOk result (Goes into.old into.new) }
 {
     let r = taken_together(into.types_mut(), seen)?;
@@ -50,8 +50,8 @@ fn plain(into: &mut TypedUnit, seen: Seen) -> Result<Option<TypeId>, NoMemory>
     requires known { AreKnown into.old }
     requires named { IsType into.old.known seen.named }
     ensures known { IfOk result (λ r. IsType into.new.known r) }
-    ensures tree { IfOk result (λ r. type_if into.new.known r ≡ and_then (specified (seen_in into.old.known seen)) without_storage) }
-    ensures whole { OnOk result (whole into.new ≡ whole into.old) }
+    ensures tree { IfOk result (λ r. type_if into.new.known r ≡ and_then (specification_of (seen_in into.old.known seen)) without_storage) }
+    ensures whole { OnOk result (whole_unit into.new ≡ whole_unit into.old) }
     ensures goes { OnOk result (Goes into.old into.new) }
 {
     let Some(x) = concluded(into, seen)? else {
@@ -73,8 +73,8 @@ pub(crate) fn base_type(
     requires named { IsType into.old.known seen.named }
     ensures opened { OnOk result (IsOpen into.new s.now) }
     ensures known { IfOk result (λ r. IsType into.new.known r) }
-    ensures tree { IfOk result (λ r. type_if into.new.known r ≡ and_then (specified (seen_in into.old.known seen)) without_storage) }
-    ensures whole { OnOk result (whole into.new ≡ whole into.old) }
+    ensures tree { IfOk result (λ r. type_if into.new.known r ≡ and_then (specification_of (seen_in into.old.known seen)) without_storage) }
+    ensures whole { OnOk result (whole_unit into.new ≡ whole_unit into.old) }
     ensures goes { OnOk result (Goes into.old into.new) }
 {
     let r = plain(into, seen)?;
@@ -93,8 +93,8 @@ pub fn derived_in(
     requires base { t.0 < length into.old.known.terms }
     requires steps { AreSteps into.old.known steps.now }
     ensures known { IfOk result (λ r. IsType into.new.known r) }
-    ensures tree { IfOk result (λ r. type_if into.new.known r ≡ derived unsized_may_be (env into.old.known) (steps_in into.old.known steps.now) (tree into.old.known t.0)) }
-    ensures whole { OnOk result (whole into.new ≡ whole into.old) }
+    ensures tree { IfOk result (λ r. type_if into.new.known r ≡ derived_type unsized_may_be (env into.old.known) (steps_in into.old.known steps.now) (tree into.old.known t.0)) }
+    ensures whole { OnOk result (whole_unit into.new ≡ whole_unit into.old) }
     ensures goes { OnOk result (Goes into.old into.new) }
 {
     let r = derived(into.types_mut(), unsized_may_be, steps, 0, t)?;
@@ -116,7 +116,7 @@ pub fn specified_type(
     ensures opened { IfOk result (λ r. IfSome r (λ k. IsOpen into.new s.new)) }
     ensures goes { IfOk result (λ r. IfSome r (λ k. Goes into.old into.new)) }
     ensures known { IfOk result (λ r. IsType into.new.known r) }
-    ensures answer { IfOk result (λ r. after_type t.now.texts unevaluated s.new into.new r ≡ and_then (specifiers (trees_at u.now.forest specs) (state_of t.now.texts unevaluated s.old into.old)) plain) }
+    ensures answer { IfOk result (λ r. after_type t.now.texts unevaluated s.new into.new r ≡ and_then (specifiers (trees_at u.now.forest specs) (state_of t.now.texts unevaluated s.old into.old)) type_without_storage) }
 {
     let Some(seen) = specifiers(u, t, s, into, specs, unevaluated)? else {
         return Ok(None);
@@ -127,7 +127,7 @@ pub fn specified_type(
 
 /// The type that one keyword names by itself (C17 6.7.2p2), if it names one: an integer type, or `void`.
 fn type_of_word(spec: Spec) -> Option<Option<IntKind>>
-    ensures { IfSome result (λ x. (f : Forest) (line : ℕ) (z : State) → and_then (specifiers (Then NoTrees (OfSpecifier (specifier_of f line spec))) z) plain ≡ give (Some (base_of x)) z) }
+    ensures { IfSome result (λ x. (f : Forest) (line : ℕ) (z : State) → and_then (specifiers (Then NoTrees (OfSpecifier (specifier_of f line spec))) z) type_without_storage ≡ give (Some (base_of x)) z) }
 {
     match spec {
         Spec::Void => Some(None),

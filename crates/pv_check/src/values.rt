@@ -9,12 +9,12 @@ ghost use Rattle.pv_typed.specs.TypedTree.{Node, ArrayPointer, is_lvalue, type_o
 ghost use Rattle.pv_typed.specs.Nodes.{form_in};
 ghost use Rattle.pv_typed.specs.Children.{HasOperands};
 ghost use Rattle.pv_typed.specs.Formed.{NamesIn};
-ghost use Rattle.pv_check.specs.Qualified.{qualified};
+ghost use Rattle.pv_check.specs.Qualified.{const_version};
 ghost use Rattle.pv_types.specs.SameTypes.{same_type};
 ghost use Rattle.pv_typed.specs.Tables.{Stored, nodes};
 ghost use Rattle.pv_typed.specs.NodeTrees.{expression_at, IsExpression};
 ghost use Rattle.pv_typed.specs.Known.{AreKnown};
-ghost use Rattle.pv_check.specs.Values.{implied, read_at, value_of, converted, promoted_value};
+ghost use Rattle.pv_check.specs.Values.{implied_node, read_at, value_of, conversion_to, promoted_value};
 
 use crate::interning::interned;
 use crate::qualified::qualified;
@@ -63,7 +63,7 @@ pub(crate) fn constant(into: &mut TypedUnit, t: TypeId) -> Result<TypeId, NoMemo
     requires known { AreKnown into.old }
     requires target { t.0 < length into.old.known.terms }
     ensures number { IfOk result (λ r. r.0 < length into.new.known.terms) }
-    ensures tree { IfOk result (λ r. tree into.new.known r.0 ≡ qualified (tree into.old.known t.0)) }
+    ensures tree { IfOk result (λ r. tree into.new.known r.0 ≡ const_version (tree into.old.known t.0)) }
     ensures kept { OnOk result (Kept into.old into.new) }
 {
     let r = qualified(into.types_mut(), t)?;
@@ -96,7 +96,7 @@ fn pointer_to_place(
     requires node { IsExpression into.old n }
     requires target { t.0 < length into.old.known.terms }
     ensures node { IfOk result (λ r. IfSome r (λ v. IsExpression into.new v)) }
-    ensures value { IfOk result (λ r. expression_if into.new r ≡ Some (implied line (PointerTo (tree into.old.known t.0)) (ArrayPointer (expression_at into.old n)))) }
+    ensures value { IfOk result (λ r. expression_if into.new r ≡ Some (implied_node line (PointerTo (tree into.old.known t.0)) (ArrayPointer (expression_at into.old n)))) }
     ensures kept { OnOk result (Kept into.old into.new) }
 {
     let Ok(to) = intern(into, Term::Pointer(t)) else {
@@ -157,7 +157,7 @@ pub(crate) fn converted(into: &mut TypedUnit, t: TypeId, n: NodeId) -> Result<No
     requires node { IsExpression into.old n }
     requires target { t.0 < length into.old.known.terms }
     ensures node { IfOk result (λ r. IsExpression into.new r) }
-    ensures value { IfOk result (λ r. expression_at into.new r ≡ converted (tree into.old.known t.0) (expression_at into.old n)) }
+    ensures value { IfOk result (λ r. expression_at into.new r ≡ conversion_to (tree into.old.known t.0) (expression_at into.old n)) }
     ensures kept { OnOk result (Kept into.old into.new) }
 {
     let from = into.type_of(n);
@@ -191,7 +191,7 @@ pub(crate) fn to_kind(into: &mut TypedUnit, kind: IntKind, n: NodeId) -> Result<
     requires known { AreKnown into.old }
     requires node { IsExpression into.old n }
     ensures node { IfOk result (λ r. IsExpression into.new r) }
-    ensures value { IfOk result (λ r. expression_at into.new r ≡ converted (IntTy kind) (expression_at into.old n)) }
+    ensures value { IfOk result (λ r. expression_at into.new r ≡ conversion_to (IntTy kind) (expression_at into.old n)) }
     ensures kept { OnOk result (Kept into.old into.new) }
 {
     if has_kind(into.types(), into.type_of(n), kind) {

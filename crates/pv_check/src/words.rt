@@ -1,7 +1,7 @@
 // Which type the type words among specifiers name (C17 6.7.2p2).
 ghost use Rattle.std.specs.Prelude.{◌≡◌, ◌<◌, ◌≤◌, ◌+◌, ◌-◌, ◌^◌, length};
 ghost use Rattle.pv_check.specs.Words.{with_word, same_words, type_of_words};
-ghost use Rattle.pv_check.specs.WordRows.{total, found, base_if};
+ghost use Rattle.pv_check.specs.WordRows.{total, type_by_words, base_if};
 
 use pv_num::IntKind;
 use pv_token::Word;
@@ -430,7 +430,7 @@ pub(crate) fn same_words(v: TypeWords, w: TypeWords) -> bool
 
 /// The type that the first row of these words names.
 fn row_of(rows: &[Row], w: TypeWords) -> Option<Option<IntKind>>
-    ensures { base_if result ≡ found rows.now w }
+    ensures { base_if result ≡ type_by_words rows.now w }
 {
     let mut i = 0;
     while i < rows.len() {

@@ -26,10 +26,10 @@ use Rattle.pv_expr_forms.proofs.Runs.{Takes}
 use Rattle.pv_expr_forms.proofs.Spans.{IsEnd, names_spelled, at_end}
 use Rattle.pv_decl_forms.specs.Parts.{function_of}
 use Rattle.pv_decl_forms.specs.Pieces.{Piece, row, row_for, row_on}
-use Rattle.pv_decl_forms.specs.Reader.{specified, type_name, readers}
-use Rattle.pv_decl_forms.specs.Answers.{seen, Answers}
+use Rattle.pv_decl_forms.specs.Reader.{behind_specifiers, type_name, readers}
+use Rattle.pv_decl_forms.specs.Answers.{piece_from, Answers}
 use Rattle.pv_decl.specs.Filled.{entry}
-use Rattle.pv_decl.specs.NameTables.{filled, NameTable, type_map, no_names, with_name, opens, is_behind_open}
+use Rattle.pv_decl.specs.NameTables.{entry_found, NameTable, type_map, no_names, with_name, opens, is_behind_open}
 use Rattle.pv_decl_forms.specs.Givens.{AreGiven, parameter_list}
 use Rattle.pv_decl_forms.specs.TypeNames.{AreTypeNames}
 use Rattle.pv_decl_forms.proofs.Naming.{type_name_good}
@@ -65,7 +65,7 @@ open_at tokens at o ts e = ap opens e
 
 -- nothing is a type name of no tokens
 no_type_name : (names : Names) (depth : ℕ) → None ≡ type_name names depth []
-unfolding type_name specified row row_for
+unfolding type_name behind_specifiers row row_for
 no_type_name names depth = refl
 
 -- nor where no specifiers begin
@@ -75,9 +75,9 @@ no_row read [] e = refl
 no_row read (t ∷ ts) e = ap (row_on (row_for (length ts) read) NoTrees (t ∷ ts)) e
 
 typeless : (names : Names) (depth : ℕ) (ts : List Token) → begins_type names ts ≡ false → type_name names depth ts ≡ None
-unfolding type_name specified
+unfolding type_name behind_specifiers
 typeless names depth ts e =
-    ap (specified (TypeName (line_here ts)) (readers names depth AbstractDeclarators)) (no_row (readers names depth Specifiers) ts (specifiers_none names depth ts e))
+    ap (behind_specifiers (TypeName (line_here ts)) (readers names depth AbstractDeclarators)) (no_row (readers names depth Specifiers) ts (specifiers_none names depth ts e))
 
 -- what a run takes is what stands before the rest
 kinds_before : (ks : List TokenKind) (here rest : List Token) → Takes ks here rest → kinds here ≡ ks ++ kinds rest
@@ -120,10 +120,10 @@ module _ (names : Names) (tokens : List Token) (at : ℕ) where
 pub record IsFilled (is_type : ℕ → Bool) (u : Tables) (tokens : List Token) (deep last : ℕ) (found : List (Option (NodeId × ℕ))) (at : ℕ) : Type 0 where
   pub inside : last ≤ length tokens
   pub count : at + length found ≡ last
-  pub tied : AreTied (filled last found) u tokens
-  pub has : (p : ℕ) → at ≤ p → p < last → seen u.forest tokens (filled last found p) ≡ entry (names_of is_type (filled last found) u.forest tokens) deep tokens p
+  pub tied : AreTied (entry_found last found) u tokens
+  pub has : (p : ℕ) → at ≤ p → p < last → piece_from u.forest tokens (entry_found last found p) ≡ entry (names_of is_type (entry_found last found) u.forest tokens) deep tokens p
 
-no_entry : (last p : ℕ) (x : NodeId × ℕ) → filled last [] p ≡ Some x → ⊥
+no_entry : (last p : ℕ) (x : NodeId × ℕ) → entry_found last [] p ≡ Some x → ⊥
 no_entry last p x is = elim (leb_tells last p) [
   | inl h ↦ let e : None ≡ Some x = sym (filled_beyond last [] p h.1) ∙ is in absurd cc
   | inr h ↦ let e : None ≡ Some x = sym (filled_before last [] p (omega (arith, h.1))) ∙ is in absurd cc
@@ -140,7 +140,7 @@ filled_none is_type u tokens deep last found at inside here e = rw e (record {
 
 -- what stands in a unit that grows
 seen_there : (u v : Tables) (tokens : List Token) (types : TypeMap) → AreTied types u tokens → Extends u v → (p : ℕ) (o : Option (NodeId × ℕ)) → types p ≡ o
-    → seen v.forest tokens o ≡ seen u.forest tokens o
+    → piece_from v.forest tokens o ≡ piece_from u.forest tokens o
 seen_there u v tokens types tied e p None is = refl
 seen_there u v tokens types tied e p (Some x) is = ap (λ (t : Tree). let y : Piece = Some (t, drop x.1 tokens) in y) (tree_kept u v x.0 e (tied p x is).node.0)
 
@@ -162,18 +162,18 @@ names_stay is_type types u v tokens tied e =
 
 module _ (is_type : ℕ → Bool) (u v : Tables) (tokens : List Token) (deep last : ℕ) (found : List (Option (NodeId × ℕ))) (at : ℕ)
     (before : IsFilled is_type u tokens deep last found (suc at)) (keeps : Extends u v) (r : Option (NodeId × ℕ))
-    (a : Answers v is_declaration tokens r (entry (names_of is_type (filled last found) u.forest tokens) deep tokens at)) where
+    (a : Answers v is_declaration tokens r (entry (names_of is_type (entry_found last found) u.forest tokens) deep tokens at)) where
   abbrev old : TypeMap
-  old = filled last found
+  old = entry_found last found
 
   abbrev new : TypeMap
-  new = filled last (found ++ (r ∷ []))
+  new = entry_found last (found ++ (r ∷ []))
 
   abbrev old_names : Names
-  old_names = names_of is_type (filled last found) u.forest tokens
+  old_names = names_of is_type (entry_found last found) u.forest tokens
 
   abbrev new_names : Names
-  new_names = names_of is_type (filled last (found ++ (r ∷ []))) v.forest tokens
+  new_names = names_of is_type (entry_found last (found ++ (r ∷ []))) v.forest tokens
 
   new_here : new at ≡ r
   new_here = filled_new last found at r (omega (arith, before.count))
@@ -193,7 +193,7 @@ module _ (is_type : ℕ → Bool) (u v : Tables) (tokens : List Token) (deep las
   type_by p (Some x) e =
       ap (λ (t : Tree). let y : DeclarationTree × List Token = (as_declaration t, drop x.1 tokens) in Some y) (tree_kept u v x.0 keeps (before.tied p x e).node.0)
 
-  seen_by : (p : ℕ) (o : Option (NodeId × ℕ)) → old p ≡ o → seen v.forest tokens o ≡ seen u.forest tokens o
+  seen_by : (p : ℕ) (o : Option (NodeId × ℕ)) → old p ≡ o → piece_from v.forest tokens o ≡ piece_from u.forest tokens o
   seen_by p None e = refl
   seen_by p (Some x) e = ap (λ (t : Tree). let y : Tree × List Token = (t, drop x.1 tokens) in Some y) (tree_kept u v x.0 keeps (before.tied p x e).node.0)
 
@@ -267,13 +267,13 @@ module _ (is_type : ℕ → Bool) (u v : Tables) (tokens : List Token) (deep las
   unfolding entry
   entry_same p low place = ap (λ (o : Piece). cond (is_behind_open tokens p) o None) (name_same p low place)
 
-  has_by : (p : ℕ) → at ≤ p → p < last → (at < p) ⊎ (p ≤ at) → seen v.forest tokens (new p) ≡ entry new_names deep tokens p
+  has_by : (p : ℕ) → at ≤ p → p < last → (at < p) ⊎ (p ≤ at) → piece_from v.forest tokens (new p) ≡ entry new_names deep tokens p
   has_by p low high (inl m) =
-      ap (seen v.forest tokens) (new_above p m) ∙ seen_by p (old p) refl ∙ before.has p (omega arith) high ∙ entry_same p low (omega (arith, before.inside))
+      ap (piece_from v.forest tokens) (new_above p m) ∙ seen_by p (old p) refl ∙ before.has p (omega arith) high ∙ entry_same p low (omega (arith, before.inside))
   has_by p low high (inr m) =
       let same : at ≡ p = omega arith in
-      subst (λ (q : ℕ). seen v.forest tokens (new q) ≡ entry new_names deep tokens q) same
-      (ap (seen v.forest tokens) new_here ∙ a.is ∙ entry_same at (omega arith) (omega (arith, before.inside, before.count)))
+      subst (λ (q : ℕ). piece_from v.forest tokens (new q) ≡ entry new_names deep tokens q) same
+      (ap (piece_from v.forest tokens) new_here ∙ a.is ∙ entry_same at (omega arith) (omega (arith, before.inside, before.count)))
 
   pub filled_more : (items : List (Option (NodeId × ℕ))) → items ≡ found ++ (r ∷ []) → IsFilled is_type v tokens deep last items at
   filled_more items e = rw e (record {
@@ -285,7 +285,7 @@ module _ (is_type : ℕ → Bool) (u v : Tables) (tokens : List Token) (deep las
 
 pub filled_step : (is_type : ℕ → Bool) (u v : Tables) (tokens : List Token) (deep last : ℕ) (found : List (Option (NodeId × ℕ))) (at : ℕ) → 0 < at
     → IsFilled is_type u tokens deep last found at → Extends u v → (r : Option (NodeId × ℕ))
-    → Answers v is_declaration tokens r (entry (names_of is_type (filled last found) u.forest tokens) deep tokens (at - 1))
+    → Answers v is_declaration tokens r (entry (names_of is_type (entry_found last found) u.forest tokens) deep tokens (at - 1))
     → (items : List (Option (NodeId × ℕ))) → items ≡ found ++ (r ∷ []) → IsFilled is_type v tokens deep last items (at - 1)
 filled_step is_type u v tokens deep last found at some before keeps r a items e =
     let here : at ≡ suc (at - 1) = omega arith in
@@ -297,10 +297,10 @@ pub filled_kept : (is_type : ℕ → Bool) (u v : Tables) (tokens : List Token) 
 filled_kept is_type u v tokens deep last found at k e = record {
   inside = k.inside;
   count = k.count;
-  tied = tied_kept (filled last found) u v tokens k.tied e;
+  tied = tied_kept (entry_found last found) u v tokens k.tied e;
   has = λ p low high.
-      seen_there u v tokens (filled last found) k.tied e p (filled last found p) refl ∙ k.has p low high
-      ∙ ap (λ (n : Names). entry n deep tokens p) (sym (names_stay is_type (filled last found) u v tokens k.tied e));
+      seen_there u v tokens (entry_found last found) k.tied e p (entry_found last found p) refl ∙ k.has p low high
+      ∙ ap (λ (n : Names). entry n deep tokens p) (sym (names_stay is_type (entry_found last found) u v tokens k.tied e));
 }
 
 -- ---- the lists of parameters
@@ -308,20 +308,20 @@ filled_kept is_type u v tokens deep last found at k e = record {
 -- the lists that are known behind a place, as one type name more is found there
 module _ {S : Type 0} (typedefs : IndexSet ℕ S) (u v : Tables) (tokens : List Token) (deep last : ℕ) (found : List (Option (NodeId × ℕ))) (at : ℕ)
     (before : IsFilled (contains nat_eq typedefs) u tokens deep last found (suc at)) (keeps : Extends u v) (r : Option (NodeId × ℕ))
-    (a : Answers v is_declaration tokens r (entry (names_of (contains nat_eq typedefs) (filled last found) u.forest tokens) deep tokens at))
+    (a : Answers v is_declaration tokens r (entry (names_of (contains nat_eq typedefs) (entry_found last found) u.forest tokens) deep tokens at))
     (lists : List (Option (Option (NodeId × ℕ)))) (count : suc at + length lists ≤ last)
-    (given : AreGiven (filled last lists) typedefs (filled last found) u tokens) where
-  list_behind : (p : ℕ) (o : Option (NodeId × ℕ)) → filled last lists p ≡ Some o → (last ≤ p) ⊎ (p < last) → (at < p) ⊎ (p ≤ at)
-      → Answers v is_declarator tokens o (parameter_list (names_in typedefs (filled last (found ++ (r ∷ []))) v tokens) depth_limit (drop p tokens))
+    (given : AreGiven (entry_found last lists) typedefs (entry_found last found) u tokens) where
+  list_behind : (p : ℕ) (o : Option (NodeId × ℕ)) → entry_found last lists p ≡ Some o → (last ≤ p) ⊎ (p < last) → (at < p) ⊎ (p ≤ at)
+      → Answers v is_declarator tokens o (parameter_list (names_in typedefs (entry_found last (found ++ (r ∷ []))) v tokens) depth_limit (drop p tokens))
   unfolding names_in
   list_behind p o e (inl l) m = let no : None ≡ Some o = sym (filled_beyond last lists p l) ∙ e in absurd cc
   list_behind p o e (inr l) (inr m) = let no : None ≡ Some o = sym (filled_before last lists p (omega (arith, count))) ∙ e in absurd cc
   list_behind p o e (inr l) (inl m) =
-      answer_kept u v tokens o (parameter_list (names_in typedefs (filled last found) u tokens) depth_limit (drop p tokens))
-      (parameter_list (names_in typedefs (filled last (found ++ (r ∷ []))) v tokens) depth_limit (drop p tokens)) keeps
+      answer_kept u v tokens o (parameter_list (names_in typedefs (entry_found last found) u tokens) depth_limit (drop p tokens))
+      (parameter_list (names_in typedefs (entry_found last (found ++ (r ∷ []))) v tokens) depth_limit (drop p tokens)) keeps
       (list_same (contains nat_eq typedefs) u v tokens deep last found at before keeps r a p (omega arith) (omega (arith, before.inside)) depth_limit) (given.read p o e)
 
-  pub given_names : (items : List (Option (NodeId × ℕ))) → items ≡ found ++ (r ∷ []) → AreGiven (filled last lists) typedefs (filled last items) v tokens
+  pub given_names : (items : List (Option (NodeId × ℕ))) → items ≡ found ++ (r ∷ []) → AreGiven (entry_found last lists) typedefs (entry_found last items) v tokens
   given_names items e = rw e (record {
     tied = new_tied (contains nat_eq typedefs) u v tokens deep last found at before keeps r a;
     read = λ p o is. list_behind p o is (elim (leb_tells last p) [ inl l ↦ inl l.1 | inr l ↦ inr l.1 ]) (sides at p);
@@ -359,15 +359,15 @@ module _ {S : Type 0} (typedefs : IndexSet ℕ S) (types : TypeMap) (u v : Table
 
 pub names_step : {S : Type 0} (typedefs : IndexSet ℕ S) (u v : Tables) (tokens : List Token) (deep last : ℕ) (found : List (Option (NodeId × ℕ))) (at : ℕ) → 0 < at
     → IsFilled (contains nat_eq typedefs) u tokens deep last found at → Extends u v → (r : Option (NodeId × ℕ))
-    → Answers v is_declaration tokens r (entry (names_of (contains nat_eq typedefs) (filled last found) u.forest tokens) deep tokens (at - 1))
+    → Answers v is_declaration tokens r (entry (names_of (contains nat_eq typedefs) (entry_found last found) u.forest tokens) deep tokens (at - 1))
     → (to : ℕ) (lists : List (Option (Option (NodeId × ℕ)))) → to ≡ last → at + length lists ≤ to
-    → AreGiven (filled to lists) typedefs (filled last found) u tokens
-    → (items : List (Option (NodeId × ℕ))) → items ≡ found ++ (r ∷ []) → AreGiven (filled to lists) typedefs (filled last items) v tokens
+    → AreGiven (entry_found to lists) typedefs (entry_found last found) u tokens
+    → (items : List (Option (NodeId × ℕ))) → items ≡ found ++ (r ∷ []) → AreGiven (entry_found to lists) typedefs (entry_found last items) v tokens
 names_step typedefs u v tokens deep last found at some before keeps r a to lists same count given items e =
     let here : at ≡ suc (at - 1) = omega arith in
     let now = given_names typedefs u v tokens deep last found (at - 1) (subst (λ (k : ℕ). IsFilled (contains nat_eq typedefs) u tokens deep last found k) here before) keeps r a lists
-    (omega (arith, count, same)) (subst (λ (n : ℕ). AreGiven (filled n lists) typedefs (filled last found) u tokens) same given) items e in
-    subst (λ (n : ℕ). AreGiven (filled n lists) typedefs (filled last items) v tokens) (sym same) now
+    (omega (arith, count, same)) (subst (λ (n : ℕ). AreGiven (entry_found n lists) typedefs (entry_found last found) u tokens) same given) items e in
+    subst (λ (n : ℕ). AreGiven (entry_found n lists) typedefs (entry_found last items) v tokens) (sym same) now
 
 -- ---- of the table as a whole
 
@@ -383,23 +383,23 @@ module _ {S : Type 0} (typedefs : IndexSet ℕ S) (u v : Tables) (tokens : List 
   table_step = rw made (filled_step (contains nat_eq typedefs) u v tokens deep table.to table.found at some before keeps r a (table.found ++ (r ∷ [])) refl)
 
   pub table_given : (to : ℕ) (lists : List (Option (Option (NodeId × ℕ)))) → to ≡ table.to → at + length lists ≤ to
-      → AreGiven (filled to lists) typedefs (type_map table) u tokens → AreGiven (filled to lists) typedefs (type_map new) v tokens
+      → AreGiven (entry_found to lists) typedefs (type_map table) u tokens → AreGiven (entry_found to lists) typedefs (type_map new) v tokens
   table_given to lists same count given =
       rw made (names_step typedefs u v tokens deep table.to table.found at some before keeps r a to lists same count given (table.found ++ (r ∷ [])) refl)
 
 -- ---- the whole table
 
-nothing_seen : (u : Tables) (tokens : List Token) (o : Option (NodeId × ℕ)) → seen u.forest tokens o ≡ None → o ≡ None
+nothing_seen : (u : Tables) (tokens : List Token) (o : Option (NodeId × ℕ)) → piece_from u.forest tokens o ≡ None → o ≡ None
 nothing_seen u tokens None e = refl
 nothing_seen u tokens (Some x) e = absurd cc
 
 module _ (is_type : ℕ → Bool) (u : Tables) (tokens : List Token) (deep last : ℕ) (found : List (Option (NodeId × ℕ))) (at from to : ℕ)
     (whole : IsFilled is_type u tokens deep last found at) (reached : at ≤ from) (low : (from ≤ at) ⊎ (last ≤ at)) (cut : (last ≡ to) ⊎ (last ≡ length tokens)) (within : last ≤ to) where
   abbrev names : Names
-  names = names_of is_type (filled last found) u.forest tokens
+  names = names_of is_type (entry_found last found) u.forest tokens
 
   -- no entry stands before the table
-  below : (p : ℕ) → p < from → filled last found p ≡ None
+  below : (p : ℕ) → p < from → entry_found last found p ≡ None
   below p h = elim low [
     | inl l ↦ filled_before last found p (omega (arith, l, whole.count))
     | inr l ↦ elim (leb_tells last p) [
@@ -408,24 +408,24 @@ module _ (is_type : ℕ → Bool) (u : Tables) (tokens : List Token) (deep last 
     ]
   ]
 
-  pub filled_outside : (p : ℕ) → (p < from) ⊎ (to ≤ p) → filled last found p ≡ None
+  pub filled_outside : (p : ℕ) → (p < from) ⊎ (to ≤ p) → entry_found last found p ≡ None
   filled_outside p (inl h) = below p h
   filled_outside p (inr h) = filled_beyond last found p (omega (arith, within))
 
-  elsewhere_by : (p : ℕ) → is_behind_open tokens p ≡ false → (last ≤ p) ⊎ (p < last) → (p < at) ⊎ (at ≤ p) → filled last found p ≡ None
+  elsewhere_by : (p : ℕ) → is_behind_open tokens p ≡ false → (last ≤ p) ⊎ (p < last) → (p < at) ⊎ (at ≤ p) → entry_found last found p ≡ None
   unfolding entry
   elsewhere_by p e (inl l) m = filled_beyond last found p l
   elsewhere_by p e (inr l) (inl m) = filled_before last found p (omega (arith, whole.count))
   elsewhere_by p e (inr l) (inr m) =
       let nothing : entry names deep tokens p ≡ None = rw e refl in
-      nothing_seen u tokens (filled last found p) (whole.has p m l ∙ nothing)
+      nothing_seen u tokens (entry_found last found p) (whole.has p m l ∙ nothing)
 
-  pub filled_elsewhere : (p : ℕ) → is_behind_open tokens p ≡ false → filled last found p ≡ None
+  pub filled_elsewhere : (p : ℕ) → is_behind_open tokens p ≡ false → entry_found last found p ≡ None
   filled_elsewhere p e = elsewhere_by p e (elim (leb_tells last p) [ inl l ↦ inl l.1 | inr l ↦ inr l.1 ]) (elim (leb_tells at p) [ inl l ↦ inr l.1 | inr l ↦ inl l.1 ])
 
   -- behind a `(` within the table
   behind_in : (p : ℕ) (o : Token) (ts : List Token) → from ≤ suc p → suc p < last → drop p tokens ≡ o ∷ ts → o.kind ≡ kind.Mark mark.OpenParen
-      → seen u.forest tokens (filled last found (suc p)) ≡ type_name names deep ts
+      → piece_from u.forest tokens (entry_found last found (suc p)) ≡ type_name names deep ts
   unfolding entry
   behind_in p o ts l h e k =
       let stands : is_behind_open tokens (suc p) ≡ true = open_at tokens p o ts e ∙ ap is_open k in
@@ -435,14 +435,14 @@ module _ (is_type : ℕ → Bool) (u : Tables) (tokens : List Token) (deep last 
 
   -- behind the last token, if that is a `(`
   behind_end : (p : ℕ) (o : Token) (ts : List Token) → last ≤ suc p → suc p < to → drop p tokens ≡ o ∷ ts
-      → seen u.forest tokens (filled last found (suc p)) ≡ type_name names deep ts
+      → piece_from u.forest tokens (entry_found last found (suc p)) ≡ type_name names deep ts
   behind_end p o ts l h e =
       let b = behind_it tokens p o ts e in
       let all : last ≡ length tokens = elim cut [ inl c ↦ absurd (omega (arith, c)) | inr c ↦ c ] in
       let none : drop (p + 1) tokens ≡ [] = drop_all (p + 1) tokens (omega (arith, all)) in
-      ap (seen u.forest tokens) (filled_beyond last found (suc p) l) ∙ no_type_name names deep ∙ ap (type_name names deep) (sym none ∙ sym b.1)
+      ap (piece_from u.forest tokens) (filled_beyond last found (suc p) l) ∙ no_type_name names deep ∙ ap (type_name names deep) (sym none ∙ sym b.1)
 
-  pub filled_whole : AreTypeNames is_type (filled last found) u tokens deep from to
+  pub filled_whole : AreTypeNames is_type (entry_found last found) u tokens deep from to
   filled_whole = record {
     behind = λ p o ts l h e k. elim (leb_tells last (suc p)) [ inl m ↦ behind_end p o ts m.1 h e | inr m ↦ behind_in p o ts l m.1 e k ];
     elsewhere = λ p o ts e k. filled_elsewhere (suc p) (open_at tokens p o ts e ∙ not_open o.kind k);

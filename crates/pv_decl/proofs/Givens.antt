@@ -28,7 +28,7 @@ use Rattle.pv_expr_forms.proofs.Spans.{IsEnd, names_spelled, at_end}
 use Rattle.pv_expr_forms.proofs.Steps.{some_is}
 use Rattle.pv_decl.specs.declared.lists.ParameterLists.{ParameterLists}
 use Rattle.pv_decl_forms.specs.Answers.{Answers}
-use Rattle.pv_decl_forms.specs.Declarators.{parametrized}
+use Rattle.pv_decl_forms.specs.Declarators.{parameters_behind}
 use Rattle.pv_decl.specs.Filled.{list_map}
 use Rattle.pv_decl_forms.specs.Givens.{AreGiven, parameter_list}
 use Rattle.pv_decl_forms.specs.Parts.{function_of}
@@ -96,13 +96,13 @@ varies (OfDeclarator (AbstractFunction line d parameters variadic)) = variadic
 varies _ = false
 
 module _ (names : Names) (K : List Token → Type 0) (spelled : IsSpelled names K) (make : Trees → Bool → Tree) (here : List Token) (known : K here) where
-  list_good : (depth : ℕ) (a : Tree) (rest : List Token) → parametrized make (readers names depth) here ≡ Some (a, rest) → Parametered names depth here make a rest
+  list_good : (depth : ℕ) (a : Tree) (rest : List Token) → parameters_behind make (readers names depth) here ≡ Some (a, rest) → Parametered names depth here make a rest
   list_good depth a rest e = parametrized_good names K spelled depth (readers names depth) (readers_sound names K spelled depth) make here a rest known e
 
   list_exact : (depth : ℕ) (parameters : Trees) (variadic : Bool) (rest : List Token) → may_be_variadic parameters variadic ≡ true
       → ListFits names.is_type (Fits names) Parameters parameters here → trees_depth parameters ≤ depth
       → Takes ((listed_tokens parameters ++ variadic_tokens variadic) ++ kind.Mark mark.CloseParen ∷ []) here rest
-      → parametrized make (readers names depth) here ≡ Some (make parameters variadic, rest)
+      → parameters_behind make (readers names depth) here ≡ Some (make parameters variadic, rest)
   list_exact depth parameters variadic rest may f d h =
       let x = readers_exact names K spelled depth in
       parametrized_exact names K spelled depth (readers names depth) (x.exact Parameters refl) (x.shut Parameters) (comma_shortens names K spelled depth (readers names depth) x.sound Parameters)
@@ -111,7 +111,7 @@ module _ (names : Names) (K : List Token → Type 0) (spelled : IsSpelled names 
 module _ (names : Names) (K : List Token → Type 0) (spelled : IsSpelled names K) (make : Trees → Bool → Tree) (here : List Token) (known : K here) (deep depth : ℕ) where
   -- one that is not too deep is read so, too
   list_shallow : (a : Tree) (rest : List Token) → parameter_list names deep here ≡ Some (a, rest) → tree_depth a ≤ suc depth
-      → Some (make (parts_of a) (varies a), rest) ≡ parametrized make (readers names depth) here
+      → Some (make (parts_of a) (varies a), rest) ≡ parameters_behind make (readers names depth) here
   list_shallow a rest e d =
       let g = list_good names K spelled (function_of 0 Absent) here known deep a rest e in
       let parts : g.parameters ≡ parts_of a = ap parts_of g.is in
@@ -123,23 +123,23 @@ module _ (names : Names) (K : List Token → Type 0) (spelled : IsSpelled names 
 
   -- what is read so is the one
   none_by : depth ≤ deep → ((a : Tree) (rest : List Token) → parameter_list names deep here ≡ Some (a, rest) → tree_depth a ≤ suc depth → ⊥)
-      → (o : Piece) → parametrized make (readers names depth) here ≡ o → None ≡ o
+      → (o : Piece) → parameters_behind make (readers names depth) here ≡ o → None ≡ o
   none_by low never None e = refl
   none_by low never (Some x) e =
       let g = list_good names K spelled make here known depth x.0 x.1 e in
       let there = list_exact names K spelled (function_of 0 Absent) here known deep g.parameters g.variadic x.1 g.may g.fits (omega (arith, g.shallow, low)) g.takes in
       absurd (never (function_of 0 Absent g.parameters g.variadic) x.1 there (omega (arith, g.shallow)))
 
-  list_none : depth ≤ deep → parameter_list names deep here ≡ None → None ≡ parametrized make (readers names depth) here
+  list_none : depth ≤ deep → parameter_list names deep here ≡ None → None ≡ parameters_behind make (readers names depth) here
   list_none low n =
-      none_by low (λ a rest e d. let no : ◌≡◌ {A = Piece} None (Some (a, rest)) = sym n ∙ e in absurd cc) (parametrized make (readers names depth) here) refl
+      none_by low (λ a rest e d. let no : ◌≡◌ {A = Piece} None (Some (a, rest)) = sym n ∙ e in absurd cc) (parameters_behind make (readers names depth) here) refl
 
   list_deep : depth ≤ deep → (b : Tree) (end : List Token) → parameter_list names deep here ≡ Some (b, end) → suc depth < tree_depth b
-      → None ≡ parametrized make (readers names depth) here
+      → None ≡ parameters_behind make (readers names depth) here
   list_deep low b end n high =
       none_by low (λ a rest e d.
       let same : b ≡ a = ap (λ (y : Tree × List Token). y.0) (some_is {A = Tree × List Token} (b, end) (a, rest) (sym n ∙ e)) in
-      omega (arith, ap tree_depth same, high, d)) (parametrized make (readers names depth) here) refl
+      omega (arith, ap tree_depth same, high, d)) (parameters_behind make (readers names depth) here) refl
 
 -- a node whose tree is an abstract function is one
 pub is_function : (f : Forest) (line : ℕ) (x : Declarator) (parameters : Trees) (variadic : Bool)
@@ -161,21 +161,21 @@ module _ {S : Type 0} (lists : ℕ → Option (Option (NodeId × ℕ))) (typedef
   known_there n end is = got u is_declarator tokens o (parameter_list (names_in typedefs types u tokens) depth_limit (drop at tokens)) n end (given.read at o e) is
 
   module _ (make : Trees → Bool → Tree) (below : ℕ) (low : below ≤ 500) where
-    pub known_none : o ≡ None → None ≡ parametrized make (readers (names_in typedefs types u tokens) below) (drop at tokens)
+    pub known_none : o ≡ None → None ≡ parameters_behind make (readers (names_in typedefs types u tokens) below) (drop at tokens)
     unfolding names_in
     known_none is =
         list_none (names_in typedefs types u tokens) (IsEnd tokens) (names_spelled (contains nat_eq typedefs) types u tokens given.tied) make (drop at tokens) (at_end tokens at place) depth_limit below
         (limit_is below low) (sym (got_none u is_declarator tokens o (parameter_list (names_in typedefs types u tokens) depth_limit (drop at tokens)) (given.read at o e) is))
 
     pub known_deep : (n : NodeId) (end : ℕ) → o ≡ Some (n, end) → suc below < tree_depth (tree_at u.forest n)
-        → None ≡ parametrized make (readers (names_in typedefs types u tokens) below) (drop at tokens)
+        → None ≡ parameters_behind make (readers (names_in typedefs types u tokens) below) (drop at tokens)
     unfolding names_in
     known_deep n end is high =
         list_deep (names_in typedefs types u tokens) (IsEnd tokens) (names_spelled (contains nat_eq typedefs) types u tokens given.tied) make (drop at tokens) (at_end tokens at place) depth_limit below
         (limit_is below low) (tree_at u.forest n) (drop end tokens) (sym (known_there n end is).0) high
 
     pub known_shallow : (n : NodeId) (end : ℕ) → o ≡ Some (n, end) → tree_depth (tree_at u.forest n) ≤ suc below
-        → Some (make (parts_of (tree_at u.forest n)) (varies (tree_at u.forest n)), drop end tokens) ≡ parametrized make (readers (names_in typedefs types u tokens) below) (drop at tokens)
+        → Some (make (parts_of (tree_at u.forest n)) (varies (tree_at u.forest n)), drop end tokens) ≡ parameters_behind make (readers (names_in typedefs types u tokens) below) (drop at tokens)
     unfolding names_in
     known_shallow n end is d =
         list_shallow (names_in typedefs types u tokens) (IsEnd tokens) (names_spelled (contains nat_eq typedefs) types u tokens given.tied) make (drop at tokens) (at_end tokens at place) depth_limit below

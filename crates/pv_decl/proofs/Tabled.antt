@@ -12,7 +12,7 @@ use Rattle.pv_expr_forms.specs.Known.{names_in}
 use Rattle.pv_expr_forms.specs.Reader.{is_open}
 use Rattle.pv_expr_forms.specs.Spelled.{IsSpelled, IsLongest, IsOnly, NothingSpells}
 use Rattle.pv_expr_forms.proofs.Marks.{open_is}
-use Rattle.pv_decl_forms.specs.Answers.{seen, IsThere, Answers}
+use Rattle.pv_decl_forms.specs.Answers.{piece_from, IsThere, Answers}
 use Rattle.pv_decl.specs.NameTables.{NameTable, type_map, opens, is_behind_open, EachBehindOpen}
 use Rattle.pv_decl_forms.specs.Grammar.{SpellsTypeName}
 use Rattle.pv_decl_forms.specs.Reader.{type_name}
@@ -107,7 +107,7 @@ module _ {S : Type 0} (typedefs : IndexSet ℕ S) (types : TypeMap) (u : Tables)
     (none : EachBehindOpen tokens from to (λ at. types at ≡ None → NothingSpells (SpellsTypeName (names_in typedefs types u tokens) deep tokens at) tokens at))
     (elsewhere : (at : ℕ) → is_behind_open tokens at ≡ false → types at ≡ None) (outside : (at : ℕ) → (at < from) ⊎ (to ≤ at) → types at ≡ None) where
   read_behind : (at : ℕ) (o : Token) (ts : List Token) → from ≤ suc at → suc at < to → drop at tokens ≡ o ∷ ts → o.kind ≡ kind.Mark mark.OpenParen
-      → seen u.forest tokens (types (suc at)) ≡ type_name (names_of (contains nat_eq typedefs) types u.forest tokens) deep ts
+      → piece_from u.forest tokens (types (suc at)) ≡ type_name (names_of (contains nat_eq typedefs) types u.forest tokens) deep ts
   unfolding names_in
   read_behind at o ts low high e paren =
       let b = behind_it tokens at o ts e in

@@ -6,7 +6,7 @@ use Rattle.pv_tree.specs.Syntax.{Tree}
 use Rattle.pv_tree.specs.Tables.{Tables}
 use Rattle.pv_expr_forms.specs.Reader.{after}
 use Rattle.pv_decl_forms.specs.Answers.{Answers}
-use Rattle.pv_decl_forms.specs.Pieces.{Piece, is_equals, optional, value}
+use Rattle.pv_decl_forms.specs.Pieces.{Piece, is_equals, part_if_any, value}
 use Rattle.pv_decl_forms.specs.Rows.{MayBeAnswered}
 use Rattle.pv_decl_forms.proofs.Answered.{got, got_none}
 
@@ -16,13 +16,13 @@ module _ (u : Tables) (kind : Tree → Bool) (tokens : List Token) (read : List 
 
   pub no_equals : at ≤ length tokens → after is_equals (drop at tokens) ≡ None → MayBeAnswered u kind tokens None at (value read (drop at tokens))
   unfolding value
-  no_equals place e = record { is = sym (ap (λ (rest : Option (List Token)). optional (drop at tokens) (from rest)) e); there = tt; place = place }
+  no_equals place e = record { is = sym (ap (λ (rest : Option (List Token)). part_if_any (drop at tokens) (from rest)) e); there = tt; place = place }
 
   module _ (rest : List Token) (e : after is_equals (drop at tokens) ≡ Some rest) (answer : Option (NodeId × ℕ)) (a : Answers u kind tokens answer (read rest)) where
     pub no_value : at ≤ length tokens → answer ≡ None → MayBeAnswered u kind tokens None at (value read (drop at tokens))
     unfolding value
     no_value place n = record {
-      is = ap (optional (drop at tokens)) (got_none u kind tokens answer _ a n) ∙ sym (ap (λ (o : Option (List Token)). optional (drop at tokens) (from o)) e);
+      is = ap (part_if_any (drop at tokens)) (got_none u kind tokens answer _ a n) ∙ sym (ap (λ (o : Option (List Token)). part_if_any (drop at tokens) (from o)) e);
       there = tt;
       place = place;
     }
@@ -32,7 +32,7 @@ module _ (u : Tables) (kind : Tree → Bool) (tokens : List Token) (read : List 
     one_value n end s =
         let g = got u kind tokens answer _ n end a s in
         record {
-          is = ap (optional (drop at tokens)) g.0 ∙ sym (ap (λ (o : Option (List Token)). optional (drop at tokens) (from o)) e);
+          is = ap (part_if_any (drop at tokens)) g.0 ∙ sym (ap (λ (o : Option (List Token)). part_if_any (drop at tokens) (from o)) e);
           there = g.1;
           place = g.2;
         }

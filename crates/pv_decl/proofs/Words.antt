@@ -19,11 +19,11 @@ use Rattle.pv_expr_forms.specs.Known.{names_in}
 use Rattle.pv_expr_forms.specs.Reader.{after, is_close}
 use Rattle.pv_expr_forms.proofs.Steps.{some_is}
 use Rattle.pv_decl_forms.specs.declared.forms.Form.TheVariants as form
-use Rattle.pv_decl_forms.specs.Answers.{seen, Answers}
-use Rattle.pv_decl_forms.specs.Declarators.{declarator, grown}
+use Rattle.pv_decl_forms.specs.Answers.{piece_from, Answers}
+use Rattle.pv_decl_forms.specs.Declarators.{declarator, longest_declarator}
 use Rattle.pv_decl_forms.specs.Givens.{AreGiven}
 use Rattle.pv_decl_forms.specs.Parts.{tag_word_of, plain_of, opening_of}
-use Rattle.pv_decl_forms.specs.Pieces.{Piece, optional, row}
+use Rattle.pv_decl_forms.specs.Pieces.{Piece, part_if_any, row}
 use Rattle.pv_decl_forms.specs.Reader.{readers, made_of, type_name}
 use Rattle.pv_decl_forms.specs.Rows.{AreAnswered}
 use Rattle.pv_decl_forms.proofs.Answered.{nothing, got}
@@ -69,7 +69,7 @@ unfolding declarator
 no_abstract names zero ts e = sym (no_declarator names form.Abstract ts)
 no_abstract names (suc depth) ts e =
     let c = closing ts e in
-    ap (option_map (λ x. grown (readers names depth) depth (line_here ts) x.0 x.1)) (head_other names (readers names depth) form.Abstract ts c.0 c.1 c.2 (closes_nothing c.0.kind c.3))
+    ap (option_map (λ x. longest_declarator (readers names depth) depth (line_here ts) x.0 x.1)) (head_other names (readers names depth) form.Abstract ts c.0 c.1 c.2 (closes_nothing c.0.kind c.3))
     ∙ sym (declarator_by names depth form.Abstract ts)
 
 -- ---- the word before it
@@ -118,9 +118,9 @@ module _ {S : Type 0} (lists : ℕ → Option (Option (NodeId × ℕ))) (typedef
         row_done lists typedefs types u v v tokens given keeps (extends_same v) is_specifier depth Specifiers (spec ∷ []) turn.nodes end turn.place None
         (nothing v is_specifier tokens (readers (names_in typedefs types v tokens) depth Specifiers (drop end tokens)) (no_specifier typedefs types v tokens depth (drop end tokens) still)) whole turn.same refl
 
-    pub word_some : made_of (TypeName t.line) (trees_of v.forest (spec ∷ [])) (optional (drop end tokens) (seen v.forest tokens None)) ≡ type_name names depth (drop at tokens)
+    pub word_some : made_of (TypeName t.line) (trees_of v.forest (spec ∷ [])) (part_if_any (drop end tokens) (piece_from v.forest tokens None)) ≡ type_name names depth (drop at tokens)
     word_some =
-        ap (λ (l : ℕ). made_of (TypeName l) (trees_of v.forest (spec ∷ [])) (optional (drop end tokens) (seen v.forest tokens None))) (ap line_here (sym here))
+        ap (λ (l : ℕ). made_of (TypeName l) (trees_of v.forest (spec ∷ [])) (part_if_any (drop end tokens) (piece_from v.forest tokens None))) (ap line_here (sym here))
         ∙ type_name_some_by names depth (drop at tokens) v tokens (spec ∷ []) end alone refl v (extends_same v) None
         (nothing v is_declarator tokens (readers names depth AbstractDeclarators (drop end tokens)) (no_abstract names depth (drop end tokens) still))
 

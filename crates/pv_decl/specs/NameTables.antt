@@ -6,8 +6,8 @@ use Rattle.pv_tree.specs.TypeNames.{TypeMap}
 use Rattle.pv_expr_forms.specs.Reader.{is_open}
 
 -- what is found at each place before one, where the list begins with the last
-abbrev pub filled : {A : Type 0} (to : ℕ) → List (Option A) → ℕ → Option A
-filled to found at = if nat_le to at then None else slice_index_or found (to - 1 - at) None
+abbrev pub entry_found : {A : Type 0} (to : ℕ) → List (Option A) → ℕ → Option A
+entry_found to found at = if nat_le to at then None else slice_index_or found (to - 1 - at) None
 
 -- what a table has: the place behind its last one, and the type name (6.7.7) that begins at each place, from the last back to the first
 pub record NameTable : Type 0 where
@@ -16,7 +16,7 @@ pub record NameTable : Type 0 where
 
 -- the type name (6.7.7) that it has at each place
 abbrev pub type_map : NameTable → TypeMap
-type_map table at = filled table.to table.found at
+type_map table at = entry_found table.to table.found at
 
 -- no type names (6.7.7), before a place
 abbrev pub no_names : (to : ℕ) → NameTable

@@ -2,9 +2,9 @@
 ghost use Rattle.std.specs.Prelude.{Some};
 ghost use Rattle.pv_tree.specs.Tables.{tree_at, is_declaration, is_declarator, is_expression, is_initializer, Is};
 ghost use Rattle.pv_tree.specs.Places.{Initializers};
-ghost use Rattle.pv_decl_forms.specs.Parts.{assigned};
-ghost use Rattle.pv_decl_forms.specs.Pieces.{value, listed};
-ghost use Rattle.pv_decl_forms.specs.Reader.{readers, initialized};
+ghost use Rattle.pv_decl_forms.specs.Parts.{assignment_expression};
+ghost use Rattle.pv_decl_forms.specs.Pieces.{value, comma_list};
+ghost use Rattle.pv_decl_forms.specs.Reader.{readers, declarator_and_value};
 ghost use Rattle.pv_expr_forms.specs.Sources.{known_names, ReadsInto};
 ghost use Rattle.pv_decl_forms.specs.Sources.{ReadsFrom, RowReads, MayRead};
 ghost use Rattle.pv_decl.specs.Sources.{IsReady};
@@ -56,7 +56,7 @@ impl<R: TypeReader> Declarations<'_, R> {
         into: &mut Unit,
     ) -> Result<Option<(NodeId, u32)>, NoMemory>
         requires { IsReady R.types self.now into.old at }
-        ensures { ReadsFrom self.now.source at into.old into.new is_expression result (assigned (known_names R.types self.now.source into.old) depth) }
+        ensures { ReadsFrom self.now.source at into.old into.new is_expression result (assignment_expression (known_names R.types self.now.source into.old) depth) }
     {
         expression(
             self.source.tokens,
@@ -78,7 +78,7 @@ impl<R: TypeReader> Declarations<'_, R> {
         into: &mut Unit,
     ) -> Result<(Vec<NodeId>, u32), NoMemory>
         requires { IsReady R.types self.now into.old at }
-        ensures { ReadsInto into.old into.new result (λ r. RowReads self.now.source at into.new is_initializer r.0.items r.1 (listed (readers (known_names R.types self.now.source into.old) depth Initializers))) }
+        ensures { ReadsInto into.old into.new result (λ r. RowReads self.now.source at into.new is_initializer r.0.items r.1 (comma_list (readers (known_names R.types self.now.source into.old) depth Initializers))) }
     {
         let mut parts = Vec::new(*self.source.typedefs.allocator());
         let mut behind = at;
@@ -126,7 +126,7 @@ impl<R: TypeReader> Declarations<'_, R> {
     ) -> Result<Option<(NodeId, u32)>, NoMemory>
         requires ready { IsReady R.types self.now into.old at }
         requires declarator { Is into.old is_declarator declarator }
-        ensures { ReadsFrom self.now.source at into.old into.new is_declaration result (λ ts. Some (initialized (readers (known_names R.types self.now.source into.old) depth) line (tree_at into.old.forest declarator) ts)) }
+        ensures { ReadsFrom self.now.source at into.old into.new is_declaration result (λ ts. Some (declarator_and_value (readers (known_names R.types self.now.source into.old) depth) line (tree_at into.old.forest declarator) ts)) }
     {
         let (init, end) = self.initial_value(at, depth, into)?;
         let declared = Decl::InitDeclarator { declarator, init };

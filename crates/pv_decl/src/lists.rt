@@ -1,7 +1,7 @@
 //! Lists of parameters that are known before they are read.
 ghost use Rattle.std.specs.Prelude.{◌≡◌, ◌≤◌, ◌<◌, ◌+◌, ℕ, [], IfSome, OnOk, Some, length};
 ghost use Rattle.pv_tree.specs.Tables.{optional_at, is_declarator, Is};
-ghost use Rattle.pv_decl_forms.specs.Declarators.{parametrized};
+ghost use Rattle.pv_decl_forms.specs.Declarators.{parameters_behind};
 ghost use Rattle.pv_decl.specs.Filled.{list_map};
 ghost use Rattle.pv_expr_forms.specs.Sources.{known_names};
 ghost use Rattle.pv_decl_forms.specs.Sources.{ReadsFrom};
@@ -94,7 +94,7 @@ impl<R: TypeReader> Declarations<'_, R> {
         requires list { list_map self.now.lists.now at ≡ Some list }
         requires left { IfSome left (λ n. Is into.old is_declarator n) }
         requires shallow { below ≤ 500 }
-        ensures { ReadsFrom self.now.source at into.old into.new is_declarator result (parametrized (function_of line (optional_at into.old.forest left)) (readers (known_names R.types self.now.source into.old) below)) }
+        ensures { ReadsFrom self.now.source at into.old into.new is_declarator result (parameters_behind (function_of line (optional_at into.old.forest left)) (readers (known_names R.types self.now.source into.old) below)) }
     {
         let Some((known, end)) = list else {
             return Ok(None);

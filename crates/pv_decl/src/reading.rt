@@ -5,10 +5,10 @@ ghost use Rattle.pv_tree.specs.Syntax.{NoTrees};
 ghost use Rattle.pv_tree.specs.Tables.{tree_at, optional_at, is_declaration, is_declarator, is_specifier, Is};
 ghost use Rattle.pv_expr_forms.specs.Reader.{after};
 ghost use Rattle.pv_decl_forms.specs.declared.forms.Part.TheVariants as part;
-ghost use Rattle.pv_decl_forms.specs.Declarators.{consts_in_row, grown, head, longer, opened, parametrized, pointer};
+ghost use Rattle.pv_decl_forms.specs.Declarators.{consts_in_row, longest_declarator, head, longer_declarator, behind_paren, parameters_behind, pointer};
 ghost use Rattle.pv_decl_forms.specs.Parts.{kind_of_part, place_of_part, word_of_tag, within, function_of};
-ghost use Rattle.pv_decl_forms.specs.Pieces.{is_open_brace, row, listed};
-ghost use Rattle.pv_decl_forms.specs.Reader.{readers, braced};
+ghost use Rattle.pv_decl_forms.specs.Pieces.{is_open_brace, row, comma_list};
+ghost use Rattle.pv_decl_forms.specs.Reader.{readers, behind_open_brace};
 ghost use Rattle.pv_expr_forms.specs.Sources.{known_names, ReadsInto};
 ghost use Rattle.pv_decl_forms.specs.Sources.{ReadsFrom, RowReads};
 ghost use Rattle.pv_decl.specs.Sources.{IsReady};
@@ -78,7 +78,7 @@ impl<R: TypeReader> Declarations<'_, R> {
         into: &mut Unit,
     ) -> Result<(Vec<NodeId>, u32), NoMemory>
         requires { IsReady R.types self.now into.old at }
-        ensures { ReadsInto into.old into.new result (λ r. RowReads self.now.source at into.new (kind_of_part part) r.0.items r.1 (listed (readers (known_names R.types self.now.source into.old) depth (place_of_part part)))) }
+        ensures { ReadsInto into.old into.new result (λ r. RowReads self.now.source at into.new (kind_of_part part) r.0.items r.1 (comma_list (readers (known_names R.types self.now.source into.old) depth (place_of_part part)))) }
     {
         let mut parts = Vec::new(*self.source.typedefs.allocator());
         let mut behind = at;
@@ -140,7 +140,7 @@ impl<R: TypeReader> Declarations<'_, R> {
         into: &mut Unit,
     ) -> Result<Option<(NodeId, u32)>, NoMemory>
         requires { IsReady R.types self.now into.old at }
-        ensures { ReadsFrom self.now.source at into.old into.new is_specifier result (λ ts. option_and_then (braced (within (known_names R.types self.now.source into.old) depth) line (word_of_tag word) tag) (after is_open_brace ts)) }
+        ensures { ReadsFrom self.now.source at into.old into.new is_specifier result (λ ts. option_and_then (behind_open_brace (within (known_names R.types self.now.source into.old) depth) line (word_of_tag word) tag) (after is_open_brace ts)) }
     {
         let Some(inside) = after(self.source.tokens, at, Sign::OpenBrace) else {
             return Ok(None);
@@ -245,7 +245,7 @@ impl<R: TypeReader> Declarations<'_, R> {
     ) -> Result<Option<(NodeId, u32)>, NoMemory>
         requires ready { IsReady R.types self.now into.old at }
         requires node { Is into.old is_declarator first }
-        ensures { ReadsFrom self.now.source at into.old into.new is_declarator result (λ ts. Some (grown (readers (known_names R.types self.now.source into.old) below) below line (tree_at into.old.forest first) ts)) }
+        ensures { ReadsFrom self.now.source at into.old into.new is_declarator result (λ ts. Some (longest_declarator (readers (known_names R.types self.now.source into.old) below) below line (tree_at into.old.forest first) ts)) }
     {
         let mut left = first;
         let mut next = at;
@@ -273,7 +273,7 @@ impl<R: TypeReader> Declarations<'_, R> {
     ) -> Result<Option<(NodeId, u32)>, NoMemory>
         requires ready { IsReady R.types self.now into.old at }
         requires node { Is into.old is_declarator left }
-        ensures { ReadsFrom self.now.source at into.old into.new is_declarator result (longer (readers (known_names R.types self.now.source into.old) below) below line (tree_at into.old.forest left)) }
+        ensures { ReadsFrom self.now.source at into.old into.new is_declarator result (longer_declarator (readers (known_names R.types self.now.source into.old) below) below line (tree_at into.old.forest left)) }
     {
         if !may_go_on(into, left, below) {
             return Ok(None);
@@ -304,7 +304,7 @@ impl<R: TypeReader> Declarations<'_, R> {
     ) -> Result<Option<(NodeId, u32)>, NoMemory>
         requires ready { IsReady R.types self.now into.old at }
         requires left { IfSome left (λ n. Is into.old is_declarator n) }
-        ensures { ReadsFrom self.now.source at into.old into.new is_declarator result (parametrized (function_of line (optional_at into.old.forest left)) (readers (known_names R.types self.now.source into.old) below)) }
+        ensures { ReadsFrom self.now.source at into.old into.new is_declarator result (parameters_behind (function_of line (optional_at into.old.forest left)) (readers (known_names R.types self.now.source into.old) below)) }
     {
         if below <= DEPTH_LIMIT {
             if let Some(list) = self.lists.at(at) {
@@ -383,7 +383,7 @@ impl<R: TypeReader> Declarations<'_, R> {
         into: &mut Unit,
     ) -> Result<Option<(NodeId, u32)>, NoMemory>
         requires { IsReady R.types self.now into.old at }
-        ensures { ReadsFrom self.now.source at into.old into.new is_declarator result (opened (known_names R.types self.now.source into.old) (readers (known_names R.types self.now.source into.old) below) form line) }
+        ensures { ReadsFrom self.now.source at into.old into.new is_declarator result (behind_paren (known_names R.types self.now.source into.old) (readers (known_names R.types self.now.source into.old) below) form line) }
     {
         if opens_parameters(self.source.tokens, self.source.typedefs, at) {
             if form.allows_abstract() {

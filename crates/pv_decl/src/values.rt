@@ -3,7 +3,7 @@ ghost use Rattle.std.specs.Prelude.{IfSome, None, if◌then◌else◌};
 ghost use Rattle.pv_tree.specs.Syntax.{Absent};
 ghost use Rattle.pv_tree.specs.Tables.{optional_at, is_declaration, is_declarator, is_expression, Is};
 ghost use Rattle.pv_tree.specs.Places.{Constants, Enumerators};
-ghost use Rattle.pv_decl_forms.specs.Declarators.{allows_abstract, sized};
+ghost use Rattle.pv_decl_forms.specs.Declarators.{allows_abstract, size_behind};
 ghost use Rattle.pv_decl_forms.specs.Parts.{array_of};
 ghost use Rattle.pv_decl_forms.specs.Pieces.{value};
 ghost use Rattle.pv_decl_forms.specs.Reader.{readers};
@@ -53,7 +53,7 @@ impl<R: TypeReader> Declarations<'_, R> {
     ) -> Result<Option<(NodeId, u32)>, NoMemory>
         requires ready { IsReady R.types self.now into.old at }
         requires left { IfSome left (λ n. Is into.old is_declarator n) }
-        ensures { ReadsFrom self.now.source at into.old into.new is_declarator result (sized (array_of line (optional_at into.old.forest left)) (readers (known_names R.types self.now.source into.old) below)) }
+        ensures { ReadsFrom self.now.source at into.old into.new is_declarator result (size_behind (array_of line (optional_at into.old.forest left)) (readers (known_names R.types self.now.source into.old) below)) }
     {
         match self.constant(at, below, into)? {
             Some((size, end)) => array_of(self.source.tokens, end, left, Some(size), line, into),
@@ -71,7 +71,7 @@ impl<R: TypeReader> Declarations<'_, R> {
         into: &mut Unit,
     ) -> Result<Option<(NodeId, u32)>, NoMemory>
         requires { IsReady R.types self.now into.old at }
-        ensures { ReadsFrom self.now.source at into.old into.new is_declarator result (λ ts. if allows_abstract form then sized (array_of line Absent) (readers (known_names R.types self.now.source into.old) below) ts else None) }
+        ensures { ReadsFrom self.now.source at into.old into.new is_declarator result (λ ts. if allows_abstract form then size_behind (array_of line Absent) (readers (known_names R.types self.now.source into.old) below) ts else None) }
     {
         if form.allows_abstract() {
             self.array(at, None, line, below, into)

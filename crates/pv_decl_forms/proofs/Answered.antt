@@ -7,7 +7,7 @@ use Rattle.pv_tree.specs.Syntax.{Tree}
 use Rattle.pv_tree.specs.Tables.{Tables, tree_at, with_tree, Is}
 use Rattle.pv_tree.proofs.Kept.{tree_new, is_new}
 use Rattle.pv_decl_forms.specs.Pieces.{Piece}
-use Rattle.pv_decl_forms.specs.Answers.{seen, IsThere, Answers}
+use Rattle.pv_decl_forms.specs.Answers.{piece_from, IsThere, Answers}
 
 -- a new tree
 pub added : (u v : Tables) (kind : Tree → Bool) (tokens : List Token) (t : Tree) (n : NodeId) (next : ℕ) → v ≡ with_tree u t → n.0 ≡ length u.forest.trees → kind t ≡ true → next ≤ length tokens
@@ -27,7 +27,7 @@ pub got : (u : Tables) (kind : Tree → Bool) (tokens : List Token) (answer : Op
     → (Some (tree_at u.forest n, drop next tokens) ≡ reading) × Is u kind n × (next ≤ length tokens)
 got u kind tokens answer reading n next a e =
     let there : IsThere u kind tokens (Some (n, next)) = subst (IsThere u kind tokens) e a.there in
-    (ap (seen u.forest tokens) (sym e) ∙ a.is, there.0, there.1)
+    (ap (piece_from u.forest tokens) (sym e) ∙ a.is, there.0, there.1)
 
 pub got_none : (u : Tables) (kind : Tree → Bool) (tokens : List Token) (answer : Option (NodeId × ℕ)) (reading : Piece) → Answers u kind tokens answer reading → answer ≡ None → None ≡ reading
-got_none u kind tokens answer reading a e = ap (seen u.forest tokens) (sym e) ∙ a.is
+got_none u kind tokens answer reading a e = ap (piece_from u.forest tokens) (sym e) ∙ a.is

@@ -19,8 +19,8 @@ use Rattle.pv_decl_forms.specs.declared.forms.CompositeWord.{CompositeWord}
 use Rattle.pv_decl_forms.specs.declared.forms.CompositeWord.TheVariants as composite
 use Rattle.pv_decl_forms.specs.declared.forms.TagWord.{TagWord}
 use Rattle.pv_decl_forms.specs.declared.forms.TagWord.TheVariants as tag_word
-use Rattle.pv_decl_forms.specs.Pieces.{Piece, Reads, is_open_brace, row_for, row, listed}
-use Rattle.pv_decl_forms.specs.Reader.{listed_in_braces, row_in_braces, tag_at, tag_alone, braced, with_tag, specifier_of, specifier, nothing, readers}
+use Rattle.pv_decl_forms.specs.Pieces.{Piece, Reads, is_open_brace, row_for, row, comma_list}
+use Rattle.pv_decl_forms.specs.Reader.{listed_in_braces, row_in_braces, tag_at, tag_alone, behind_open_brace, with_tag, specifier_of, specifier, nothing, readers}
 use Rattle.pv_decl_forms.specs.Parts.{word_of_composite, word_of_tag, tag_word_of, plain_of, within}
 use Rattle.pv_decl_forms.specs.Answers.{Answers}
 use Rattle.pv_decl_forms.proofs.Answered.{got_none}
@@ -90,14 +90,14 @@ specifier_tagged names depth ts t rest e w h = tagged_by names (within names dep
 -- ---- braces, or a tag alone
 
 module _ (v : Tables) (tokens : List Token) (below : Reads) (line : ℕ) (w : Word) (here : List Token) (tag : Option ℕ) (mid : List Token) (is : ◌≡◌ {A = Option ℕ × List Token} (tag, mid) (tag_at here))
-    (answer : Option (NodeId × ℕ)) (a : Answers v is_specifier tokens answer (option_and_then (braced below line w tag) (after is_open_brace mid))) where
-  either : (o : Piece) → o ≡ option_and_then (braced below line w tag) (after is_open_brace mid) → or_else o (tag_alone line w tag mid) ≡ with_tag below line w (tag_at here)
+    (answer : Option (NodeId × ℕ)) (a : Answers v is_specifier tokens answer (option_and_then (behind_open_brace below line w tag) (after is_open_brace mid))) where
+  either : (o : Piece) → o ≡ option_and_then (behind_open_brace below line w tag) (after is_open_brace mid) → or_else o (tag_alone line w tag mid) ≡ with_tag below line w (tag_at here)
   unfolding with_tag
   either o e = ap (λ (p : Piece). or_else p (tag_alone line w tag mid)) e ∙ ap (with_tag below line w) is
 
   pub tagged_braced : (x : NodeId × ℕ) → answer ≡ Some x → Answers v is_specifier tokens (Some x) (with_tag below line w (tag_at here))
   tagged_braced x e =
-      let b : Answers v is_specifier tokens (Some x) (option_and_then (braced below line w tag) (after is_open_brace mid)) = subst (λ (o : Option (NodeId × ℕ)). Answers v is_specifier tokens o (option_and_then (braced below line w tag) (after is_open_brace mid))) e a in
+      let b : Answers v is_specifier tokens (Some x) (option_and_then (behind_open_brace below line w tag) (after is_open_brace mid)) = subst (λ (o : Option (NodeId × ℕ)). Answers v is_specifier tokens o (option_and_then (behind_open_brace below line w tag) (after is_open_brace mid))) e a in
       record { is = either _ b.is; there = b.there }
 
   pub tagged_alone : answer ≡ None → tag_alone line w tag mid ≡ with_tag below line w (tag_at here)
@@ -110,45 +110,45 @@ unfolding row_for
 row_nothing zero place ts = refl
 row_nothing (suc steps) place ts = refl
 
-braced_nothing : (line : ℕ) (w : TagWord) (tag : Option ℕ) (ts : List Token) → None ≡ braced nothing line (word_of_tag w) tag ts
-unfolding braced row listed listed_in_braces row_in_braces
+braced_nothing : (line : ℕ) (w : TagWord) (tag : Option ℕ) (ts : List Token) → None ≡ behind_open_brace nothing line (word_of_tag w) tag ts
+unfolding behind_open_brace row comma_list listed_in_braces row_in_braces
 braced_nothing line (tag_word.Composite composite.Struct) tag ts = ap (row_in_braces (λ members. OfSpecifier (Composite line word.Struct tag members))) (row_nothing (length ts) Members ts)
 braced_nothing line (tag_word.Composite composite.Union) tag ts = ap (row_in_braces (λ members. OfSpecifier (Composite line word.Union tag members))) (row_nothing (length ts) Members ts)
 braced_nothing line tag_word.Enum tag ts = refl
 
 braced_enum : (below : Reads) (line : ℕ) (w : TagWord) (tag : Option ℕ) (ts : List Token) → w ≡ tag_word.Enum
-    → listed_in_braces (λ trees comma. OfSpecifier (Enumeration line tag trees comma)) (listed (below Enumerators) ts) ≡ braced below line (word_of_tag w) tag ts
-unfolding braced
-braced_enum below line w tag ts e = ap (λ (x : TagWord). braced below line (word_of_tag x) tag ts) (sym e)
+    → listed_in_braces (λ trees comma. OfSpecifier (Enumeration line tag trees comma)) (comma_list (below Enumerators) ts) ≡ behind_open_brace below line (word_of_tag w) tag ts
+unfolding behind_open_brace
+braced_enum below line w tag ts e = ap (λ (x : TagWord). behind_open_brace below line (word_of_tag x) tag ts) (sym e)
 
 composite_by : (below : Reads) (line : ℕ) (c : CompositeWord) (tag : Option ℕ) (ts : List Token)
-    → row_in_braces (λ trees. OfSpecifier (Composite line (word_of_composite c) tag trees)) (row (below Members) NoTrees ts) ≡ braced below line (word_of_composite c) tag ts
-unfolding braced
+    → row_in_braces (λ trees. OfSpecifier (Composite line (word_of_composite c) tag trees)) (row (below Members) NoTrees ts) ≡ behind_open_brace below line (word_of_composite c) tag ts
+unfolding behind_open_brace
 composite_by below line composite.Struct tag ts = refl
 composite_by below line composite.Union tag ts = refl
 
 braced_composite : (below : Reads) (line : ℕ) (w : TagWord) (c : CompositeWord) (tag : Option ℕ) (ts : List Token) → w ≡ tag_word.Composite c
-    → row_in_braces (λ trees. OfSpecifier (Composite line (word_of_composite c) tag trees)) (row (below Members) NoTrees ts) ≡ braced below line (word_of_tag w) tag ts
-braced_composite below line w c tag ts e = composite_by below line c tag ts ∙ ap (λ (x : TagWord). braced below line (word_of_tag x) tag ts) (sym e)
+    → row_in_braces (λ trees. OfSpecifier (Composite line (word_of_composite c) tag trees)) (row (below Members) NoTrees ts) ≡ behind_open_brace below line (word_of_tag w) tag ts
+braced_composite below line w c tag ts e = composite_by below line c tag ts ∙ ap (λ (x : TagWord). behind_open_brace below line (word_of_tag x) tag ts) (sym e)
 
 module _ (names : Names) (depth line : ℕ) (w : TagWord) (tag : Option ℕ) (ts : List Token) where
-  pub no_brace : after is_open_brace ts ≡ None → None ≡ option_and_then (braced (within names depth) line (word_of_tag w) tag) (after is_open_brace ts)
-  no_brace e = ap (option_and_then (braced (within names depth) line (word_of_tag w) tag)) (sym e)
+  pub no_brace : after is_open_brace ts ≡ None → None ≡ option_and_then (behind_open_brace (within names depth) line (word_of_tag w) tag) (after is_open_brace ts)
+  no_brace e = ap (option_and_then (behind_open_brace (within names depth) line (word_of_tag w) tag)) (sym e)
 
   module _ (rest : List Token) (e : after is_open_brace ts ≡ Some rest) where
-    behind_brace : (o : Piece) → o ≡ braced (within names depth) line (word_of_tag w) tag rest → o ≡ option_and_then (braced (within names depth) line (word_of_tag w) tag) (after is_open_brace ts)
-    behind_brace o h = h ∙ ap (option_and_then (braced (within names depth) line (word_of_tag w) tag)) (sym e)
+    behind_brace : (o : Piece) → o ≡ behind_open_brace (within names depth) line (word_of_tag w) tag rest → o ≡ option_and_then (behind_open_brace (within names depth) line (word_of_tag w) tag) (after is_open_brace ts)
+    behind_brace o h = h ∙ ap (option_and_then (behind_open_brace (within names depth) line (word_of_tag w) tag)) (sym e)
 
-    pub no_depth : depth ≡ 0 → None ≡ option_and_then (braced (within names depth) line (word_of_tag w) tag) (after is_open_brace ts)
+    pub no_depth : depth ≡ 0 → None ≡ option_and_then (behind_open_brace (within names depth) line (word_of_tag w) tag) (after is_open_brace ts)
     no_depth z = behind_brace None
         (braced_nothing line w tag rest
-        ∙ ap (λ (r : Reads). braced r line (word_of_tag w) tag rest) (nothing_within names)
-        ∙ ap (λ (d : ℕ). braced (within names d) line (word_of_tag w) tag rest) (sym z))
+        ∙ ap (λ (r : Reads). behind_open_brace r line (word_of_tag w) tag rest) (nothing_within names)
+        ∙ ap (λ (d : ℕ). behind_open_brace (within names d) line (word_of_tag w) tag rest) (sym z))
 
     pub enumerators_in : 0 < depth → w ≡ tag_word.Enum
-        → listed_in_braces (λ trees comma. OfSpecifier (Enumeration line tag trees comma)) (listed (readers names (depth - 1) Enumerators) rest) ≡ option_and_then (braced (within names depth) line (word_of_tag w) tag) (after is_open_brace ts)
-    enumerators_in positive is = behind_brace _ (braced_enum (readers names (depth - 1)) line w tag rest is ∙ ap (λ (r : Reads). braced r line (word_of_tag w) tag rest) (parts_within names depth positive))
+        → listed_in_braces (λ trees comma. OfSpecifier (Enumeration line tag trees comma)) (comma_list (readers names (depth - 1) Enumerators) rest) ≡ option_and_then (behind_open_brace (within names depth) line (word_of_tag w) tag) (after is_open_brace ts)
+    enumerators_in positive is = behind_brace _ (braced_enum (readers names (depth - 1)) line w tag rest is ∙ ap (λ (r : Reads). behind_open_brace r line (word_of_tag w) tag rest) (parts_within names depth positive))
 
     pub members_in : 0 < depth → (c : CompositeWord) → w ≡ tag_word.Composite c
-        → row_in_braces (λ trees. OfSpecifier (Composite line (word_of_composite c) tag trees)) (row (readers names (depth - 1) Members) NoTrees rest) ≡ option_and_then (braced (within names depth) line (word_of_tag w) tag) (after is_open_brace ts)
-    members_in positive c is = behind_brace _ (braced_composite (readers names (depth - 1)) line w c tag rest is ∙ ap (λ (r : Reads). braced r line (word_of_tag w) tag rest) (parts_within names depth positive))
+        → row_in_braces (λ trees. OfSpecifier (Composite line (word_of_composite c) tag trees)) (row (readers names (depth - 1) Members) NoTrees rest) ≡ option_and_then (behind_open_brace (within names depth) line (word_of_tag w) tag) (after is_open_brace ts)
+    members_in positive c is = behind_brace _ (braced_composite (readers names (depth - 1)) line w c tag rest is ∙ ap (λ (r : Reads). behind_open_brace r line (word_of_tag w) tag rest) (parts_within names depth positive))

@@ -12,8 +12,8 @@ use Rattle.pv_tree.specs.Fitting.{RowFits, ListFits}
 use Rattle.pv_expr_forms.specs.Reader.{is_comma, is_close, after}
 use Rattle.pv_expr_forms.proofs.Runs.{Takes, takes_parts, parts_at}
 use Rattle.pv_expr_forms.proofs.Heads.{IsSpelled}
-use Rattle.pv_decl_forms.specs.Pieces.{Piece, Reads, is_close_brace, found_in, row, after_comma, listed}
-use Rattle.pv_decl_forms.specs.Declarators.{closed, with_parameters, parametrized}
+use Rattle.pv_decl_forms.specs.Pieces.{Piece, Reads, is_close_brace, found_in, row, after_comma, comma_list}
+use Rattle.pv_decl_forms.specs.Declarators.{behind_parameters, with_parameters, parameters_behind}
 use Rattle.pv_decl_forms.specs.Reader.{brace_closed, listed_in_braces, row_in_braces}
 use Rattle.pv_decl_forms.proofs.Marks.{after_taken, after_other}
 use Rattle.pv_decl_forms.proofs.Steps.{Shortens}
@@ -70,7 +70,7 @@ module _ (names : Names) (K : List Token → Type 0) (spelled : IsSpelled names 
     (none : (ts : List Token) → Shuts ts → read ts ≡ None) where
   pub list_ended : Shortens K (after_comma read) → (parts : Trees) (here rest : List Token) → K here
       → ListFits names.is_type (Fits names) place parts here → trees_depth parts ≤ depth
-      → Takes (listed_tokens parts) here rest → Ending read rest → listed read here ≡ (parts, rest)
+      → Takes (listed_tokens parts) here rest → Ending read rest → comma_list read here ≡ (parts, rest)
   list_ended short parts here rest known f d h e =
       listed_exact names K spelled place depth read exact short parts here rest known f d h (closes_stops place rest e.ends) e.none (λ empty. none rest (closed_shuts rest e.ends))
 
@@ -78,7 +78,7 @@ module _ (names : Names) (K : List Token → Type 0) (spelled : IsSpelled names 
       → some parts ≡ true
       → ListFits names.is_type (Fits names) place parts here → trees_depth parts ≤ depth
       → Takes ((listed_tokens parts ++ comma_tokens comma) ++ kind.Mark mark.CloseBrace ∷ []) here rest
-      → listed_in_braces make (listed read here) ≡ Some (make parts comma, rest)
+      → listed_in_braces make (comma_list read here) ≡ Some (make parts comma, rest)
   unfolding listed_in_braces brace_closed
   braces_exact short make parts comma here rest known has f d h =
       let p = parts_at (listed_tokens parts ++ comma_tokens comma) (kind.Mark mark.CloseBrace) [] here rest h in
@@ -108,8 +108,8 @@ pub parametrized_exact : (names : Names) (K : List Token → Type 0) → IsSpell
     (ts rest : List Token) → K ts → may_be_variadic parameters variadic ≡ true → ListFits names.is_type (Fits names) Parameters parameters ts
     → trees_depth parameters ≤ depth
     → Takes ((listed_tokens parameters ++ variadic_tokens variadic) ++ kind.Mark mark.CloseParen ∷ []) ts rest
-    → parametrized make r ts ≡ Some (make parameters variadic, rest)
-unfolding parametrized with_parameters closed
+    → parameters_behind make r ts ≡ Some (make parameters variadic, rest)
+unfolding parameters_behind with_parameters behind_parameters
 parametrized_exact names K spelled depth r exact none short make parameters variadic ts rest known may f d h =
     let p = parts_at (listed_tokens parameters ++ variadic_tokens variadic) (kind.Mark mark.CloseParen) [] ts rest h in
     let q = takes_parts (listed_tokens parameters) (variadic_tokens variadic) ts (p.token ∷ p.after) p.left in

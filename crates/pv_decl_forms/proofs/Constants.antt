@@ -13,9 +13,9 @@ use Rattle.pv_tree.proofs.Kept.{tree_kept}
 use Rattle.pv_expr_forms.specs.Reader.{read, after}
 use Rattle.pv_expr_forms.specs.Known.{names_in}
 use Rattle.pv_expr_forms.specs.Answers.{Answers as ExpressionAnswers}
-use Rattle.pv_decl_forms.specs.Pieces.{Piece, Reads, is_equals, optional, value}
-use Rattle.pv_decl_forms.specs.Declarators.{bracketed, sized}
-use Rattle.pv_decl_forms.specs.Reader.{name_of, enumerator, enumerator_of, made, leaves, with_parts, readers}
+use Rattle.pv_decl_forms.specs.Pieces.{Piece, Reads, is_equals, part_if_any, value}
+use Rattle.pv_decl_forms.specs.Declarators.{behind_size, size_behind}
+use Rattle.pv_decl_forms.specs.Reader.{name_of, enumerator, enumerator_of, node_readers, leaves, with_parts, readers}
 use Rattle.pv_decl_forms.specs.Parts.{array_of}
 use Rattle.pv_decl_forms.specs.Answers.{Answers}
 use Rattle.pv_decl_forms.specs.Rows.{MayBeAnswered}
@@ -31,7 +31,7 @@ abbrev pub as_piece : Option (ExpressionTree × List Token) → Piece
 as_piece o = option_map (λ x. (OfExpression x.0, x.1)) o
 
 pub constants_are : (names : Names) (depth : ℕ) (ts : List Token) → as_piece (read names depth 3 ts) ≡ readers names depth Constants ts
-unfolding readers with_parts leaves made read
+unfolding readers with_parts leaves node_readers read
 constants_are names zero ts = refl
 constants_are names (suc depth) ts = refl
 
@@ -52,18 +52,18 @@ optional_kept u v kind (Some n) e h = ap (λ (t : Tree). Present t) (tree_kept u
 module _ (u v : Tables) (tokens : List Token) (at line : ℕ) (below : Reads) (left : Option NodeId) (keeps : Extends u v) (there : IfSome left (λ n. Is u is_declarator n))
     (answer : Option (NodeId × ℕ)) (a : Answers v is_expression tokens answer (below Constants (drop at tokens))) where
   abbrev Whole : Piece
-  Whole = sized (array_of line (optional_at u.forest left)) below (drop at tokens)
+  Whole = size_behind (array_of line (optional_at u.forest left)) below (drop at tokens)
 
-  from_parts : (o : Piece) → o ≡ below Constants (drop at tokens) → bracketed (array_of line (optional_at v.forest left)) (optional (drop at tokens) o) ≡ Whole
-  unfolding sized
+  from_parts : (o : Piece) → o ≡ below Constants (drop at tokens) → behind_size (array_of line (optional_at v.forest left)) (part_if_any (drop at tokens) o) ≡ Whole
+  unfolding size_behind
   from_parts o e =
-      ap (λ (d : OptionalTree). bracketed (array_of line d) (optional (drop at tokens) o)) (optional_kept u v is_declarator left keeps there)
-      ∙ ap (λ (p : Piece). bracketed (array_of line (optional_at u.forest left)) (optional (drop at tokens) p)) e
+      ap (λ (d : OptionalTree). behind_size (array_of line d) (part_if_any (drop at tokens) o)) (optional_kept u v is_declarator left keeps there)
+      ∙ ap (λ (p : Piece). behind_size (array_of line (optional_at u.forest left)) (part_if_any (drop at tokens) p)) e
 
-  pub array_some : (n : NodeId) (next : ℕ) → answer ≡ Some (n, next) → bracketed (array_of line (optional_at v.forest left)) (Present (tree_at v.forest n), drop next tokens) ≡ Whole
+  pub array_some : (n : NodeId) (next : ℕ) → answer ≡ Some (n, next) → behind_size (array_of line (optional_at v.forest left)) (Present (tree_at v.forest n), drop next tokens) ≡ Whole
   array_some n next e = from_parts (Some (tree_at v.forest n, drop next tokens)) (got v is_expression tokens answer _ n next a e).0
 
-  pub array_none : answer ≡ None → bracketed (array_of line (optional_at v.forest left)) (Absent, drop at tokens) ≡ Whole
+  pub array_none : answer ≡ None → behind_size (array_of line (optional_at v.forest left)) (Absent, drop at tokens) ≡ Whole
   array_none e = from_parts None (got_none v is_expression tokens answer _ a e)
 
 -- ---- values behind `=`
@@ -83,7 +83,7 @@ module _ (u : Tables) (kind : Tree → Bool) (tokens : List Token) (at : ℕ) (p
 -- ---- enumerators
 
 pub enumerators_are : (names : Names) (depth : ℕ) (ts : List Token) → enumerator names (readers names depth) ts ≡ readers names depth Enumerators ts
-unfolding readers with_parts enumerator enumerator_of leaves made
+unfolding readers with_parts enumerator enumerator_of leaves node_readers
 enumerators_are names zero [] = refl
 enumerators_are names zero (t ∷ ts) = refl
 enumerators_are names (suc depth) [] = refl

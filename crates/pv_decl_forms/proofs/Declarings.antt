@@ -15,9 +15,9 @@ use Rattle.pv_tree.specs.Fitting.{DeclarationFits, DeclaratorFits, RowFits, List
 use Rattle.pv_expr_forms.specs.Follows.{or_else}
 use Rattle.pv_expr_forms.proofs.Runs.{Takes, takes_parts, takes_rest, takes_length, parts_at}
 use Rattle.pv_expr_forms.proofs.Heads.{IsSpelled}
-use Rattle.pv_decl_forms.specs.Pieces.{Piece, Reads, is_semicolon, is_equals, optional, value, row_on, row, after_comma, listed}
+use Rattle.pv_decl_forms.specs.Pieces.{Piece, Reads, is_semicolon, is_equals, part_if_any, value, row_on, row, after_comma, comma_list}
 use Rattle.pv_decl_forms.specs.Grammar.{opens_block, is_declared}
-use Rattle.pv_decl_forms.specs.Reader.{ended, initialized, init_declarator, leaves, with_parts, readers, declared, after_declarator, after_specifiers, declaration_with, declaration}
+use Rattle.pv_decl_forms.specs.Reader.{semicolon_behind, declarator_and_value, init_declarator, leaves, with_parts, readers, behind_declarators, after_declarator, after_specifiers, declaration_with, declaration}
 use Rattle.pv_decl_forms.proofs.Marks.{after_taken, after_other, open_brace_is}
 use Rattle.pv_decl_forms.proofs.Goods.{known_behind, comma_shortens}
 use Rattle.pv_decl_forms.proofs.Stops.{Stops, closes_on, row_quits}
@@ -30,14 +30,14 @@ use Rattle.pv_decl_forms.proofs.Everywhere.{readers_exact}
 
 -- an init-declarator is read from its declarator on
 pub init_by : (names : Names) (depth : ℕ) (ts : List Token) → readers names depth InitDeclarators ts ≡ init_declarator (readers names depth) ts
-unfolding readers with_parts init_declarator leaves initialized
+unfolding readers with_parts init_declarator leaves declarator_and_value
 init_by names zero ts = refl
 init_by names (suc depth) ts = refl
 
 -- no semicolon stands here
 no_semicolon_at : (names : Names) (line : ℕ) (specs : Trees) (t : Token) (ts : List Token) → First names t.kind
-    → ended (Declaration line specs NoTrees) (t ∷ ts) ≡ None
-unfolding ended
+    → semicolon_behind (Declaration line specs NoTrees) (t ∷ ts) ≡ None
+unfolding semicolon_behind
 no_semicolon_at names line specs t ts f =
     ap (λ (b : Bool). option_map (λ (y : List Token). let z : Tree × List Token = (OfDeclaration (Declaration line specs NoTrees), y) in z) (cond b (Some ts) None)) f.no_semicolon
 
@@ -46,7 +46,7 @@ value_blocked : (read : List Token → Piece) (ts : List Token) → opens_block 
 unfolding value
 value_blocked read [] e = refl
 value_blocked read (t ∷ ts) e =
-    ap (λ (o : Option (List Token)). optional (t ∷ ts) (option_and_then read o)) (after_other is_equals (kind.Mark mark.OpenBrace) t ts (open_brace_is t.kind e) refl)
+    ap (λ (o : Option (List Token)). part_if_any (t ∷ ts) (option_and_then read o)) (after_other is_equals (kind.Mark mark.OpenBrace) t ts (open_brace_is t.kind e) refl)
 
 row_blocked : (read : List Token → Piece) (before : Trees) (ts : List Token) → opens_block ts ≡ true → row (after_comma read) before ts ≡ (before, ts)
 row_blocked read before [] e = absurd cc
@@ -78,13 +78,13 @@ module _ (names : Names) (K : List Token → Type 0) (spelled : IsSpelled names 
   -- declarators behind specifiers, to a semicolon
   list_by : (line : ℕ) (specs declarators : Trees) (mid : List Token) (t : Token) (ts : List Token) (block : Bool) (y : Tree × List Token)
       → opens_block y.1 ≡ block → t.kind ≡ kind.Mark mark.Semicolon
-      → row (after_comma (r InitDeclarators)) (Then NoTrees (initialized r (line_here mid) y.0 y.1).0) (initialized r (line_here mid) y.0 y.1).1 ≡ (declarators, t ∷ ts)
+      → row (after_comma (r InitDeclarators)) (Then NoTrees (declarator_and_value r (line_here mid) y.0 y.1).0) (declarator_and_value r (line_here mid) y.0 y.1).1 ≡ (declarators, t ∷ ts)
       → after_declarator r line (line_here mid) specs y.0 y.1 ≡ Some (OfDeclaration (Declaration line specs declarators), ts)
-  unfolding after_declarator initialized declared ended
+  unfolding after_declarator declarator_and_value behind_declarators semicolon_behind
   list_by line specs declarators mid t ts true y o k e =
       let v = value_blocked (r Initializers) y.1 o in
       let left : (value (r Initializers) y.1).1 ≡ y.1 = ap (λ (z : OptionalTree × List Token). z.1) v in
-      let stop = row_blocked (r InitDeclarators) (Then NoTrees (initialized r (line_here mid) y.0 y.1).0) (value (r Initializers) y.1).1 (ap opens_block left ∙ o) in
+      let stop = row_blocked (r InitDeclarators) (Then NoTrees (declarator_and_value r (line_here mid) y.0 y.1).0) (value (r Initializers) y.1).1 (ap opens_block left ∙ o) in
       absurd (block_no_semicolon (value (r Initializers) y.1).1 t ts (ap opens_block left ∙ o) (ap (λ (z : Trees × List Token). z.1) (sym stop ∙ e)) k)
   list_by line specs declarators mid t ts false y o k e =
       let c = after_taken is_semicolon (kind.Mark mark.Semicolon) (t ∷ ts) ts refl (k, refl) in
@@ -93,7 +93,7 @@ module _ (names : Names) (K : List Token → Type 0) (spelled : IsSpelled names 
   listed_by : (line : ℕ) (specs declarators : Trees) (mid : List Token) (t : Token) (ts : List Token) (o : Piece) → r MemberDeclarators mid ≡ o
       → some declarators ≡ true
       → t.kind ≡ kind.Mark mark.Semicolon
-      → row_on (row (after_comma (r InitDeclarators))) NoTrees mid (option_map (λ y. initialized r (line_here mid) y.0 y.1) o) ≡ (declarators, t ∷ ts)
+      → row_on (row (after_comma (r InitDeclarators))) NoTrees mid (option_map (λ y. declarator_and_value r (line_here mid) y.0 y.1) o) ≡ (declarators, t ∷ ts)
       → option_and_then (λ y. after_declarator r line (line_here mid) specs y.0 y.1) o ≡ Some (OfDeclaration (Declaration line specs declarators), ts)
   listed_by line specs declarators mid t ts None is has k e =
       let none : false ≡ true = ap (λ (z : Trees × List Token). some z.0) e ∙ has in
@@ -102,9 +102,9 @@ module _ (names : Names) (K : List Token → Type 0) (spelled : IsSpelled names 
 
   list_read : (line : ℕ) (specs declarators : Trees) (mid : List Token) (t : Token) (ts : List Token) → some declarators ≡ true
       → t.kind ≡ kind.Mark mark.Semicolon
-      → listed (r InitDeclarators) mid ≡ (declarators, t ∷ ts)
+      → comma_list (r InitDeclarators) mid ≡ (declarators, t ∷ ts)
       → option_and_then (λ y. after_declarator r line (line_here mid) specs y.0 y.1) (r MemberDeclarators mid) ≡ Some (OfDeclaration (Declaration line specs declarators), ts)
-  unfolding listed init_declarator
+  unfolding comma_list init_declarator
   list_read line specs declarators mid t ts has k e =
       listed_by line specs declarators mid t ts (r MemberDeclarators mid) refl has k
       (ap (row_on (row (after_comma (r InitDeclarators))) NoTrees mid) (sym (init_by names depth mid)) ∙ e)
@@ -120,7 +120,7 @@ module _ (names : Names) (K : List Token → Type 0) (spelled : IsSpelled names 
 
     alone_read : (rest : List Token) → Takes ((trees_tokens specs ++ []) ++ kind.Mark mark.Semicolon ∷ []) here rest
         → declaration names (suc depth) here ≡ Some (OfDeclaration (Declaration line specs NoTrees), rest)
-    unfolding after_specifiers ended
+    unfolding after_specifiers semicolon_behind
     alone_read rest h =
         let p = parts_at (trees_tokens specs ++ []) (kind.Mark mark.Semicolon) [] here rest h in
         let q = takes_parts (trees_tokens specs) [] here (p.token ∷ p.after) p.left in

@@ -21,7 +21,7 @@ use Rattle.pv_expr_forms.proofs.Heads.{IsSpelled}
 use Rattle.pv_decl_forms.specs.declared.forms.Form.{Form}
 use Rattle.pv_decl_forms.specs.declared.forms.Form.TheVariants as form
 use Rattle.pv_decl_forms.specs.Pieces.{Piece, Reads}
-use Rattle.pv_decl_forms.specs.Declarators.{place_of, allows_name, allows_abstract, parenthesized, pointing, arrayed, functioned, sized, parametrized, consts_in_row, pointed, pointer, opens_parameters, in_parentheses, opened, head_of, head, tried, longer, carried, grown_for, grown, declarator}
+use Rattle.pv_decl_forms.specs.Declarators.{place_of, allows_name, allows_abstract, paren_tree, pointing, array_tree, function_tree, size_behind, parameters_behind, consts_in_row, pointer_tree, pointer, opens_parameters, in_parentheses, behind_paren, head_of, head, declarator_on, longer_declarator, on_with, grown_for, longest_declarator, declarator}
 use Rattle.pv_decl_forms.proofs.Marks.{consts_taken}
 use Rattle.pv_decl_forms.proofs.Steps.{piece_is}
 use Rattle.pv_decl_forms.proofs.Goods.{Good, IsSound, Sized, Parametered, good_at, left_spells, known_behind, sized_good, parametrized_good}
@@ -83,7 +83,7 @@ module _ (names : Names) (K : List Token → Type 0) (spelled : IsSpelled names 
 
   paren_good : (t : Token) (ts : List Token) (d : DeclaratorTree) (mid rest : List Token) → t.kind ≡ kind.Mark mark.OpenParen
       → GoodAs names f depth ts d mid → after is_close mid ≡ Some rest
-      → Good names (place_of f) (suc depth) (t ∷ ts) (parenthesized t.line (OfDeclarator d)) rest
+      → Good names (place_of f) (suc depth) (t ∷ ts) (paren_tree t.line (OfDeclarator d)) rest
   paren_good t ts d mid rest o g c =
       let run : Takes (kind.Mark mark.OpenParen ∷ (declarator_tokens d ++ kind.Mark mark.CloseParen ∷ [])) (t ∷ ts) rest =
       (o, takes_then (declarator_tokens d) (kind.Mark mark.CloseParen ∷ []) ts mid rest g.takes (after_close mid rest c)) in
@@ -95,11 +95,11 @@ module _ (names : Names) (K : List Token → Type 0) (spelled : IsSpelled names 
       → Good names (place_of f) depth ts x mid → in_parentheses t.line x mid ≡ Some (a, rest) → Good names (place_of f) (suc depth) (t ∷ ts) a rest
   unfolding in_parentheses
   within_good t ts x mid a rest o g e =
-      let m = mapped (λ (y : List Token). let z : Tree × List Token = (parenthesized t.line x, y) in z) (after is_close mid) (a, rest) e in
+      let m = mapped (λ (y : List Token). let z : Tree × List Token = (paren_tree t.line x, y) in z) (after is_close mid) (a, rest) e in
       let d = declarator_stands f x g.stand in
       let g' = subst (λ (y : Tree). Good names (place_of f) depth ts y mid) d.1 g in
-      good_at names (place_of f) (suc depth) (t ∷ ts) (parenthesized t.line x, m.0) a rest m.2
-      (subst (λ (y : Tree). Good names (place_of f) (suc depth) (t ∷ ts) (parenthesized t.line y) m.0) (sym d.1) (paren_good t ts d.0 mid m.0 o g' m.1))
+      good_at names (place_of f) (suc depth) (t ∷ ts) (paren_tree t.line x, m.0) a rest m.2
+      (subst (λ (y : Tree). Good names (place_of f) (suc depth) (t ∷ ts) (paren_tree t.line y) m.0) (sym d.1) (paren_good t ts d.0 mid m.0 o g' m.1))
 
   -- parameters with nothing before them
   parameters_good : (t : Token) (ts : List Token) (a : Tree) (rest : List Token) → t.kind ≡ kind.Mark mark.OpenParen → allows_abstract f ≡ true
@@ -127,7 +127,7 @@ module _ (names : Names) (K : List Token → Type 0) (spelled : IsSpelled names 
 
   opened_by : (b c : Bool) (t : Token) (ts : List Token) (a : Tree) (rest : List Token) → K ts → t.kind ≡ kind.Mark mark.OpenParen
       → allows_abstract f ≡ c
-      → cond b (cond c (parametrized (λ parameters variadic. OfDeclarator (AbstractFunction t.line Absent parameters variadic)) r ts) None)
+      → cond b (cond c (parameters_behind (λ parameters variadic. OfDeclarator (AbstractFunction t.line Absent parameters variadic)) r ts) None)
       (option_and_then (λ x. in_parentheses t.line x.0 x.1) (r (place_of f) ts)) ≡ Some (a, rest)
       → Good names (place_of f) (suc depth) (t ∷ ts) a rest
   opened_by true true t ts a rest known o may e =
@@ -167,9 +167,9 @@ module _ (names : Names) (K : List Token → Type 0) (spelled : IsSpelled names 
 
   pointed_good : (t : Token) (ts : List Token) (o : Piece) (a : Tree) (rest : List Token) → K (drop (consts_in_row ts) ts)
       → t.kind ≡ kind.Mark mark.Star
-      → r (place_of f) (drop (consts_in_row ts) ts) ≡ o → pointed f t.line (consts_in_row ts) (drop (consts_in_row ts) ts) o ≡ Some (a, rest)
+      → r (place_of f) (drop (consts_in_row ts) ts) ≡ o → pointer_tree f t.line (consts_in_row ts) (drop (consts_in_row ts) ts) o ≡ Some (a, rest)
       → Good names (place_of f) (suc depth) (t ∷ ts) a rest
-  unfolding pointed
+  unfolding pointer_tree
   pointed_good t ts None a rest known star is e = alone_good (allows_abstract f) t ts a rest star refl e
   pointed_good t ts (Some x) a rest known star is e =
       let g = s.good (place_of f) (drop (consts_in_row ts) ts) x.0 x.1 known is in
@@ -193,7 +193,7 @@ module _ (names : Names) (K : List Token → Type 0) (spelled : IsSpelled names 
 
   bracket_good : (b : Bool) (t : Token) (ts : List Token) (a : Tree) (rest : List Token) → K ts → t.kind ≡ kind.Mark mark.OpenBracket
       → allows_abstract f ≡ b
-      → cond b (sized (λ size. OfDeclarator (AbstractArray t.line Absent size)) r ts) None ≡ Some (a, rest)
+      → cond b (size_behind (λ size. OfDeclarator (AbstractArray t.line Absent size)) r ts) None ≡ Some (a, rest)
       → Good names (place_of f) (suc depth) (t ∷ ts) a rest
   bracket_good true t ts a rest known o may e = size_good t ts a rest o may (sized_good names K spelled depth r s (λ size. OfDeclarator (AbstractArray t.line Absent size)) ts a rest known e)
   bracket_good false t ts a rest known o may e = absurd cc
@@ -201,7 +201,7 @@ module _ (names : Names) (K : List Token → Type 0) (spelled : IsSpelled names 
   head_of_good : (t : Token) (k : TokenKind) (ts : List Token) (a : Tree) (rest : List Token) → t.kind ≡ k → K ts
       → head_of names r f t.line k ts ≡ Some (a, rest)
       → Good names (place_of f) (suc depth) (t ∷ ts) a rest
-  unfolding head_of pointer opened
+  unfolding head_of pointer behind_paren
   head_of_good t (kind.Name n) ts a rest is known e =
       let g = unless {A = Tree × List Token} (names.is_type n) (cond {A = Piece} (allows_name f) (Some (OfDeclarator (DeclaredName t.line n), ts)) None) (a, rest) e in
       named_good (allows_name f) t n ts a rest is g.0 refl g.1
@@ -225,7 +225,7 @@ module _ (names : Names) (K : List Token → Type 0) (spelled : IsSpelled names 
     behind = ap (drop 1) (takes_rest (declarator_tokens d) here (t ∷ ts) g.takes)
 
     array_good : (a : Tree) (rest : List Token) → t.kind ≡ kind.Mark mark.OpenBracket
-        → Sized names depth ts (arrayed (line_here here) (OfDeclarator d)) a rest
+        → Sized names depth ts (array_tree (line_here here) (OfDeclarator d)) a rest
         → Good names (place_of f) (suc depth) here a rest
     array_good a rest o p =
         let line = line_here here in
@@ -237,7 +237,7 @@ module _ (names : Names) (K : List Token → Type 0) (spelled : IsSpelled names 
         (λ e. record { stand = stand_like f d (AbstractArray line (Present (OfDeclarator d)) p.size) e g.stand; fits = (refl, (rw (unnamed_abstract d e, direct) refl, g.fits), size); shallow = omega (arith, p.shallow, low); spells = left_spells (declarator_tokens d) _ g.spells; takes = run }))
 
     function_good : (a : Tree) (rest : List Token) → t.kind ≡ kind.Mark mark.OpenParen
-        → Parametered names depth ts (functioned (line_here here) (OfDeclarator d)) a rest
+        → Parametered names depth ts (function_tree (line_here here) (OfDeclarator d)) a rest
         → Good names (place_of f) (suc depth) here a rest
     function_good a rest o p =
         let line = line_here here in
@@ -249,37 +249,37 @@ module _ (names : Names) (K : List Token → Type 0) (spelled : IsSpelled names 
         (λ e. record { stand = stand_like f d (FunctionDeclarator line d p.parameters p.variadic) e g.stand; fits = (refl, e, direct, p.may, g.fits, parameters); shallow = omega (arith, p.shallow, low); spells = left_spells (declarator_tokens d) _ g.spells; takes = run })
         (λ e. record { stand = stand_like f d (AbstractFunction line (Present (OfDeclarator d)) p.parameters p.variadic) e g.stand; fits = (refl, p.may, (rw (unnamed_abstract d e, direct) refl, g.fits), parameters); shallow = omega (arith, p.shallow, low); spells = left_spells (declarator_tokens d) _ g.spells; takes = run }))
 
-    tried_good : (k : TokenKind) (a : Tree) (rest : List Token) → t.kind ≡ k → K ts → tried r (line_here here) (OfDeclarator d) k ts ≡ Some (a, rest)
+    tried_good : (k : TokenKind) (a : Tree) (rest : List Token) → t.kind ≡ k → K ts → declarator_on r (line_here here) (OfDeclarator d) k ts ≡ Some (a, rest)
         → Good names (place_of f) (suc depth) here a rest
-    unfolding tried
+    unfolding declarator_on
     tried_good (kind.Mark mark.OpenBracket) a rest is known e =
-        array_good a rest is (sized_good names K spelled depth r s (arrayed (line_here here) (OfDeclarator d)) ts a rest known e)
+        array_good a rest is (sized_good names K spelled depth r s (array_tree (line_here here) (OfDeclarator d)) ts a rest known e)
     tried_good (kind.Mark mark.OpenParen) a rest is known e =
-        function_good a rest is (parametrized_good names K spelled depth r s (functioned (line_here here) (OfDeclarator d)) ts a rest known e)
+        function_good a rest is (parametrized_good names K spelled depth r s (function_tree (line_here here) (OfDeclarator d)) ts a rest known e)
     tried_good _ a rest is known e = absurd (none-some (a, rest) e)
 
   longer_by : (here : List Token) (d : DeclaratorTree) (ts : List Token) (a : Tree) (rest : List Token) → K here
       → GoodAs names f (suc depth) here d ts
-      → longer r depth (line_here here) (OfDeclarator d) ts ≡ Some (a, rest) → Good names (place_of f) (suc depth) here a rest
-  unfolding longer
+      → longer_declarator r depth (line_here here) (OfDeclarator d) ts ≡ Some (a, rest) → Good names (place_of f) (suc depth) here a rest
+  unfolding longer_declarator
   longer_by here d [] a rest known g e = absurd cc
   longer_by here d (t ∷ ts) a rest known g e =
-      let p = guarded (is_direct d && leb (declarator_depth d) depth) (tried r (line_here here) (OfDeclarator d) t.kind ts) (a, rest) e in
+      let p = guarded (is_direct d && leb (declarator_depth d) depth) (declarator_on r (line_here here) (OfDeclarator d) t.kind ts) (a, rest) e in
       let q = and_parts (is_direct d) (leb (declarator_depth d) depth) p.0 in
       tried_good here d t ts g q.0 (leb-true _ _ q.1) t.kind a rest refl (spelled.tail t ts (known_behind names K spelled (declarator_tokens d) here (t ∷ ts) g.takes known)) p.1
 
   pub longer_good : (here : List Token) (left : Tree) (ts : List Token) (a : Tree) (rest : List Token) → K here
       → Good names (place_of f) (suc depth) here left ts
-      → longer r depth (line_here here) left ts ≡ Some (a, rest) → Good names (place_of f) (suc depth) here a rest
+      → longer_declarator r depth (line_here here) left ts ≡ Some (a, rest) → Good names (place_of f) (suc depth) here a rest
   longer_good here left ts a rest known g e =
       let d = declarator_stands f left g.stand in
       longer_by here d.0 ts a rest known (subst (λ (y : Tree). Good names (place_of f) (suc depth) here y ts) d.1 g)
-      (ap (λ (y : Tree). longer r depth (line_here here) y ts) (sym d.1) ∙ e)
+      (ap (λ (y : Tree). longer_declarator r depth (line_here here) y ts) (sym d.1) ∙ e)
 
   carried_good : (go : Tree → List Token → Tree × List Token) (here : List Token) (left : Tree) (ts : List Token) (o : Piece) → K here
-      → longer r depth (line_here here) left ts ≡ o → Good names (place_of f) (suc depth) here left ts
+      → longer_declarator r depth (line_here here) left ts ≡ o → Good names (place_of f) (suc depth) here left ts
       → ((a : Tree) (rest : List Token) → Good names (place_of f) (suc depth) here a rest → Good names (place_of f) (suc depth) here (go a rest).0 (go a rest).1)
-      → Good names (place_of f) (suc depth) here (carried go left ts o).0 (carried go left ts o).1
+      → Good names (place_of f) (suc depth) here (on_with go left ts o).0 (on_with go left ts o).1
   carried_good go here left ts None known e g h = g
   carried_good go here left ts (Some x) known e g h = h x.0 x.1 (longer_good here left ts x.0 x.1 known g e)
 
@@ -288,17 +288,17 @@ module _ (names : Names) (K : List Token → Type 0) (spelled : IsSpelled names 
   unfolding grown_for
   grown_for_good zero here left ts known g = g
   grown_for_good (suc steps) here left ts known g =
-      carried_good (grown_for steps r depth (line_here here)) here left ts (longer r depth (line_here here) left ts) known refl g (λ a rest g'. grown_for_good steps here a rest known g')
+      carried_good (grown_for steps r depth (line_here here)) here left ts (longer_declarator r depth (line_here here) left ts) known refl g (λ a rest g'. grown_for_good steps here a rest known g')
 
   pub grown_good : (here : List Token) (left : Tree) (ts : List Token) → K here → Good names (place_of f) (suc depth) here left ts
-      → let x = grown r depth (line_here here) left ts in Good names (place_of f) (suc depth) here x.0 x.1
-  unfolding grown
+      → let x = longest_declarator r depth (line_here here) left ts in Good names (place_of f) (suc depth) here x.0 x.1
+  unfolding longest_declarator
   grown_good here left ts known g = grown_for_good (suc depth) here left ts known g
 
   pub declarator_good : (ts : List Token) (a : Tree) (rest : List Token) → K ts → declarator names r depth f ts ≡ Some (a, rest)
       → Good names (place_of f) (suc depth) ts a rest
   unfolding declarator
   declarator_good ts a rest known e =
-      let m = mapped (λ (x : Tree × List Token). grown r depth (line_here ts) x.0 x.1) (head names r f ts) (a, rest) e in
-      good_at names (place_of f) (suc depth) ts (grown r depth (line_here ts) m.0.0 m.0.1) a rest m.2
+      let m = mapped (λ (x : Tree × List Token). longest_declarator r depth (line_here ts) x.0 x.1) (head names r f ts) (a, rest) e in
+      good_at names (place_of f) (suc depth) ts (longest_declarator r depth (line_here ts) m.0.0 m.0.1) a rest m.2
       (grown_good ts m.0.0 m.0.1 known (head_good ts m.0.0 m.0.1 known m.1))

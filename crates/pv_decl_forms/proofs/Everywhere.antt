@@ -18,7 +18,7 @@ use Rattle.pv_expr_forms.proofs.Trees.{depth_pos}
 use Rattle.pv_expr_forms.proofs.Heads.{IsSpelled}
 use Rattle.pv_decl_forms.specs.declared.forms.Form.TheVariants as form
 use Rattle.pv_decl_forms.specs.Pieces.{Reads, is_equals, is_semicolon}
-use Rattle.pv_decl_forms.specs.Reader.{name_of, ended, with_members, member_with, member, enumerator_of, enumerator, initialized, init_declarator, made, nothing, leaves, with_parts, readers}
+use Rattle.pv_decl_forms.specs.Reader.{name_of, semicolon_behind, with_members, member_with, member, enumerator_of, enumerator, declarator_and_value, init_declarator, node_readers, nothing, leaves, with_parts, readers}
 use Rattle.pv_decl_forms.proofs.Marks.{after_taken, after_other}
 use Rattle.pv_decl_forms.proofs.Goods.{known_behind, comma_shortens}
 use Rattle.pv_decl_forms.proofs.Sound.{leaves_sound, made_sound, readers_sound}
@@ -69,7 +69,7 @@ module _ (names : Names) (K : List Token → Type 0) (spelled : IsSpelled names 
       → trees_depth specs ≤ depth → trees_depth declarators ≤ depth
       → Takes ((trees_tokens specs ++ listed_tokens declarators) ++ kind.Mark mark.Semicolon ∷ []) here rest
       → member r here ≡ Some (OfDeclaration (MemberDeclaration line specs declarators), rest)
-  unfolding member member_with with_members ended
+  unfolding member member_with with_members semicolon_behind
   member_exact line specs declarators here rest known e has more f g d k h =
       let p = parts_at (trees_tokens specs ++ listed_tokens declarators) (kind.Mark mark.Semicolon) [] here rest h in
       let q = takes_parts (trees_tokens specs) (listed_tokens declarators) here (p.token ∷ p.after) p.left in
@@ -97,8 +97,8 @@ module _ (names : Names) (K : List Token → Type 0) (spelled : IsSpelled names 
   pub initialized_exact : (line : ℕ) (d : DeclaratorTree) (init : OptionalTree) (ts rest : List Token) → K ts
       → OptionalFits names.is_type (Fits names) Initializers init (drop 1 ts)
       → optional_depth init ≤ depth → Takes (value_tokens init) ts rest → Closes rest
-      → initialized r line (OfDeclarator d) ts ≡ (OfDeclaration (InitDeclarator line d init), rest)
-  unfolding initialized
+      → declarator_and_value r line (OfDeclarator d) ts ≡ (OfDeclaration (InitDeclarator line d init), rest)
+  unfolding declarator_and_value
   initialized_exact line d init ts rest known f deep h c =
       rw (value_exact names K spelled Initializers depth (r Initializers) (x.exact Initializers refl) init ts rest known f deep h (closes_stops Initializers rest c) (closes_no_equals rest c)) refl
 
@@ -140,8 +140,8 @@ module _ (names : Names) (K : List Token → Type 0) (spelled : IsSpelled names 
 -- ---- nodes
 
 module _ (names : Names) (K : List Token → Type 0) (spelled : IsSpelled names K) (depth : ℕ) (x : IsExact names K depth of_parts (readers names depth)) where
-  made_exact : (place : Place) → of_nodes place ≡ true → ExactBy names K place (suc depth) (made names (readers names depth) depth place)
-  unfolding made
+  made_exact : (place : Place) → of_nodes place ≡ true → ExactBy names K place (suc depth) (node_readers names (readers names depth) depth place)
+  unfolding node_readers
   made_exact Specifiers p (OfSpecifier s) here rest known stand f deep h stop = specifier_exact names K spelled depth (readers names depth) x s here rest known f deep h (tag_ends s rest stop)
   made_exact Specifiers p _ here rest known stand f deep h stop = absurd (false≢true stand)
   made_exact MemberDeclarators p (OfDeclarator d) here rest known stand f deep h stop = declarator_exact names K spelled depth (readers names depth) x form.Named d here rest known stand f deep h stop
@@ -216,5 +216,5 @@ module _ (names : Names) (K : List Token → Type 0) (spelled : IsSpelled names 
       record { sound = readers_sound names K spelled zero; exact = parts_exact names K spelled 0 (leaves names) x; shut = readers_shut names zero; typeless = specifiers_none names zero }
   readers_exact (suc depth) =
       let y = readers_exact depth in
-      let x : IsExact names K (suc depth) of_nodes (made names (readers names depth) depth) = record { sound = made_sound names K spelled depth; exact = made_exact names K spelled depth y; shut = none_made names depth; typeless = made_none names depth } in
-      record { sound = readers_sound names K spelled (suc depth); exact = parts_exact names K spelled (suc depth) (made names (readers names depth) depth) x; shut = readers_shut names (suc depth); typeless = specifiers_none names (suc depth) }
+      let x : IsExact names K (suc depth) of_nodes (node_readers names (readers names depth) depth) = record { sound = made_sound names K spelled depth; exact = made_exact names K spelled depth y; shut = none_made names depth; typeless = made_none names depth } in
+      record { sound = readers_sound names K spelled (suc depth); exact = parts_exact names K spelled (suc depth) (node_readers names (readers names depth) depth) x; shut = readers_shut names (suc depth); typeless = specifiers_none names (suc depth) }

@@ -13,8 +13,8 @@ use Rattle.pv_tree.specs.Fitting.{TreeFits, RowFits, ListFits, OptionalFits}
 use Rattle.pv_expr_forms.specs.Reader.{is_comma, is_bracket, after}
 use Rattle.pv_expr_forms.proofs.Runs.{Takes, takes_parts, takes_rest, parts_at}
 use Rattle.pv_expr_forms.proofs.Heads.{IsSpelled}
-use Rattle.pv_decl_forms.specs.Pieces.{Piece, Reads, is_equals, is_ellipsis, found_in, optional, value, row_on, row, after_comma, listed}
-use Rattle.pv_decl_forms.specs.Declarators.{bracketed, sized, variadic_at}
+use Rattle.pv_decl_forms.specs.Pieces.{Piece, Reads, is_equals, is_ellipsis, found_in, part_if_any, value, row_on, row, after_comma, comma_list}
+use Rattle.pv_decl_forms.specs.Declarators.{behind_size, size_behind, variadic_at}
 use Rattle.pv_decl_forms.proofs.Marks.{after_taken, after_other}
 use Rattle.pv_decl_forms.proofs.Steps.{Shortens, row_next}
 use Rattle.pv_decl_forms.proofs.Goods.{known_behind}
@@ -56,21 +56,21 @@ module _ (names : Names) (K : List Token → Type 0) (spelled : IsSpelled names 
 
   pub optional_exact : (o : OptionalTree) (here rest : List Token) → K here → OptionalFits names.is_type (Fits names) place o here
       → optional_depth o ≤ depth
-      → Takes (optional_tokens o) here rest → Stops place rest → read rest ≡ None → optional here (read here) ≡ (o, rest)
+      → Takes (optional_tokens o) here rest → Stops place rest → read rest ≡ None → part_if_any here (read here) ≡ (o, rest)
   optional_exact Absent here rest known f d h s none =
-      ap (λ (x : List Token). optional x (read x)) h ∙ ap (optional rest) none
-  optional_exact (Present t) here rest known f d h s none = ap (optional here) (exact t here rest known f.0 f.1 d h s)
+      ap (λ (x : List Token). part_if_any x (read x)) h ∙ ap (part_if_any rest) none
+  optional_exact (Present t) here rest known f d h s none = ap (part_if_any here) (exact t here rest known f.0 f.1 d h s)
 
   pub value_exact : (o : OptionalTree) (here rest : List Token) → K here → OptionalFits names.is_type (Fits names) place o (drop 1 here)
       → optional_depth o ≤ depth
       → Takes (value_tokens o) here rest → Stops place rest → after is_equals rest ≡ None → value read here ≡ (o, rest)
   unfolding value
   value_exact Absent here rest known f d h s none =
-      ap (λ (x : List Token). optional x (option_and_then read (after is_equals x))) h ∙ ap (λ (x : Option (List Token)). optional rest (option_and_then read x)) none
+      ap (λ (x : List Token). part_if_any x (option_and_then read (after is_equals x))) h ∙ ap (λ (x : Option (List Token)). part_if_any rest (option_and_then read x)) none
   value_exact (Present t) [] rest known f d h s none = absurd h
   value_exact (Present t) (e ∷ ts) rest known f d h s none =
       let c = after_taken is_equals (kind.Mark mark.Assign) (e ∷ ts) ts refl (h.0, refl) in
-      ap (λ (x : Option (List Token)). optional (e ∷ ts) (option_and_then read x)) c ∙ ap (optional (e ∷ ts)) (exact t ts rest (spelled.tail e ts known) f.0 f.1 d h.1 s)
+      ap (λ (x : Option (List Token)). part_if_any (e ∷ ts) (option_and_then read x)) c ∙ ap (part_if_any (e ∷ ts)) (exact t ts rest (spelled.tail e ts known) f.0 f.1 d h.1 s)
 
   -- ---- rows
 
@@ -96,8 +96,8 @@ module _ (names : Names) (K : List Token → Type 0) (spelled : IsSpelled names 
   pub list_comes : Shortens K (after_comma read) → (before : Trees) (last : Tree) (here rest : List Token) → K here
       → ListFits names.is_type (Fits names) place (Then before last) here → trees_depth (Then before last) ≤ depth
       → Takes (listed_tokens (Then before last)) here rest
-      → Stops place rest → listed read here ≡ row (after_comma read) (Then before last) rest
-  unfolding listed
+      → Stops place rest → comma_list read here ≡ row (after_comma read) (Then before last) rest
+  unfolding comma_list
   list_comes short NoTrees last here rest known f d h s =
       ap (row_on (row (after_comma read)) NoTrees here) (exact last here rest known f.1 f.2 (omega (arith, d)) h s)
   list_comes short (Then others other) last here rest known f d h s =
@@ -117,8 +117,8 @@ module _ (names : Names) (K : List Token → Type 0) (spelled : IsSpelled names 
       → ListFits names.is_type (Fits names) place parts here
       → trees_depth parts ≤ depth → Takes (listed_tokens parts) here rest → Stops place rest → after_comma read rest ≡ None
       → (some parts ≡ false → read rest ≡ None)
-      → listed read here ≡ (parts, rest)
-  unfolding listed
+      → comma_list read here ≡ (parts, rest)
+  unfolding comma_list
   listed_exact short NoTrees here rest known f d h s stop none =
       ap (λ (x : List Token). row_on (row (after_comma read)) NoTrees x (read x)) h ∙ ap (row_on (row (after_comma read)) NoTrees rest) (none refl)
   listed_exact short (Then before last) here rest known f d h s stop none =
@@ -131,8 +131,8 @@ pub sized_exact : (names : Names) (K : List Token → Type 0) → IsSpelled name
     → ((ts : List Token) → Shuts ts → r Constants ts ≡ None) → (make : OptionalTree → Tree) (size : OptionalTree) (ts rest : List Token) → K ts
     → OptionalFits names.is_type (Fits names) Constants size ts → optional_depth size ≤ depth
     → Takes (optional_tokens size ++ kind.Mark mark.CloseBracket ∷ []) ts rest
-    → sized make r ts ≡ Some (make size, rest)
-unfolding sized bracketed
+    → size_behind make r ts ≡ Some (make size, rest)
+unfolding size_behind behind_size
 sized_exact names K spelled depth r exact none make size ts rest known f d h =
     let p = parts_at (optional_tokens size) (kind.Mark mark.CloseBracket) [] ts rest h in
     let stop = stops_on Constants (kind.Mark mark.CloseBracket) p.token p.after p.kind refl in

@@ -17,7 +17,7 @@ use Rattle.pv_expr_forms.proofs.Heads.{IsSpelled}
 use Rattle.pv_decl_forms.specs.declared.forms.Form.TheVariants as form
 use Rattle.pv_decl_forms.specs.Pieces.{Piece, Reads, is_semicolon, row, after_comma}
 use Rattle.pv_decl_forms.specs.Grammar.{opens_block, is_declared}
-use Rattle.pv_decl_forms.specs.Reader.{ended, initialized, readers, declared, after_declarator, after_specifiers, declaration_with, declaration}
+use Rattle.pv_decl_forms.specs.Reader.{semicolon_behind, declarator_and_value, readers, behind_declarators, after_declarator, after_specifiers, declaration_with, declaration}
 use Rattle.pv_decl_forms.proofs.Marks.{semicolon_taken}
 use Rattle.pv_decl_forms.proofs.Steps.{piece_is}
 use Rattle.pv_decl_forms.proofs.Goods.{Good, IsSound, Rowed, Commas, left_spells, known_behind, row_good, list_good}
@@ -41,8 +41,8 @@ module _ (names : Names) (K : List Token → Type 0) (spelled : IsSpelled names 
 
   -- to a semicolon
   ended_good : (parts : Trees) (ts : List Token) (a : Tree) (rest : List Token) → Commas names InitDeclarators depth mid parts ts
-      → ended (Declaration (line_here here) specs parts) ts ≡ Some (a, rest) → IsGood a rest
-  unfolding ended
+      → semicolon_behind (Declaration (line_here here) specs parts) ts ≡ Some (a, rest) → IsGood a rest
+  unfolding semicolon_behind
   ended_good parts ts a rest l e =
       let d = Declaration (line_here here) specs parts in
       let m = mapped (λ (y : List Token). let z : Tree × List Token = (OfDeclaration d, y) in z) (after is_semicolon ts) (a, rest) e in
@@ -75,14 +75,14 @@ module _ (names : Names) (K : List Token → Type 0) (spelled : IsSpelled names 
   behind_by : (block : Bool) (d : DeclaratorTree) (ts : List Token) (a : Tree) (rest : List Token) → K ts
       → Good names MemberDeclarators depth mid (OfDeclarator d) ts → opens_block ts ≡ block
       → cond {A = Piece} block (Some (OfDeclaration (Parameter (line_here here) specs (Present (OfDeclarator d))), ts))
-      (declared (line_here here) specs (row (after_comma (r InitDeclarators)) (Then NoTrees (initialized r (line_here mid) (OfDeclarator d) ts).0) (initialized r (line_here mid) (OfDeclarator d) ts).1)) ≡ Some (a, rest)
+      (behind_declarators (line_here here) specs (row (after_comma (r InitDeclarators)) (Then NoTrees (declarator_and_value r (line_here mid) (OfDeclarator d) ts).0) (declarator_and_value r (line_here mid) (OfDeclarator d) ts).1)) ≡ Some (a, rest)
       → IsGood a rest
-  unfolding declared
+  unfolding behind_declarators
   behind_by true d ts a rest known g o e =
       let same = piece_is _ _ _ _ e in
       subst (λ (y : Tree × List Token). IsGood y.0 y.1) same (head_good d ts g o)
   behind_by false d ts a rest known g o e =
-      let i = initialized r (line_here mid) (OfDeclarator d) ts in
+      let i = declarator_and_value r (line_here mid) (OfDeclarator d) ts in
       let first = initialized_good names K spelled depth r s mid (OfDeclarator d) ts known g in
       let x = row (after_comma (r InitDeclarators)) (Then NoTrees i.0) i.1 in
       let l = list_good names K spelled depth r s InitDeclarators mid i.0 i.1 first.0 first.1 in
@@ -99,7 +99,7 @@ module _ (names : Names) (K : List Token → Type 0) (spelled : IsSpelled names 
   pub specified_good : (a : Tree) (rest : List Token) → K mid → after_specifiers r (line_here here) specs mid ≡ Some (a, rest) → IsGood a rest
   unfolding after_specifiers
   specified_good a rest known e =
-      elim (or_else_is (ended (Declaration (line_here here) specs NoTrees) mid) (option_and_then (λ y. after_declarator r (line_here here) (line_here mid) specs y.0 y.1) (r MemberDeclarators mid)) (a, rest) e) [
+      elim (or_else_is (semicolon_behind (Declaration (line_here here) specs NoTrees) mid) (option_and_then (λ y. after_declarator r (line_here here) (line_here mid) specs y.0 y.1) (r MemberDeclarators mid)) (a, rest) e) [
         | inl h ↦ ended_good NoTrees mid a rest (record { fits = tt; shallow = omega arith; spells = λ more. absurd cc; takes = refl }) h
         | inr h ↦
             let m = followed (λ (y : Tree × List Token). after_declarator r (line_here here) (line_here mid) specs y.0 y.1) (r MemberDeclarators mid) (a, rest) h in

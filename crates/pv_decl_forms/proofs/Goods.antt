@@ -17,8 +17,8 @@ use Rattle.pv_expr_forms.proofs.Runs.{Takes, takes_then, takes_rest, takes_lengt
 use Rattle.pv_expr_forms.proofs.Steps.{followed}
 use Rattle.pv_expr_forms.proofs.Marks.{after_close, after_bracket}
 use Rattle.pv_expr_forms.proofs.Heads.{IsSpelled}
-use Rattle.pv_decl_forms.specs.Pieces.{Piece, Reads, is_equals, optional, value, row_on, row, after_comma, listed}
-use Rattle.pv_decl_forms.specs.Declarators.{sized, variadic_at, parametrized}
+use Rattle.pv_decl_forms.specs.Pieces.{Piece, Reads, is_equals, part_if_any, value, row_on, row, after_comma, comma_list}
+use Rattle.pv_decl_forms.specs.Declarators.{size_behind, variadic_at, parameters_behind}
 use Rattle.pv_decl_forms.proofs.Marks.{comma_taken, equals_taken, varied}
 use Rattle.pv_decl_forms.proofs.Steps.{Shortens, row_holds, bracketed_is, with_parameters_is}
 
@@ -182,25 +182,25 @@ module _ (names : Names) (K : List Token → Type 0) (spelled : IsSpelled names 
         (g.0, g.1.1)
 
     pub listed_good : (place : Place) (ts : List Token) → K ts
-        → K (listed (r place) ts).1 × Commas names place deep ts (listed (r place) ts).0 (listed (r place) ts).1
-    unfolding listed
+        → K (comma_list (r place) ts).1 × Commas names place deep ts (comma_list (r place) ts).0 (comma_list (r place) ts).1
+    unfolding comma_list
     listed_good place ts known = listed_by place ts (r place ts) known refl
 
     -- ---- parts that may be left out
 
     optional_by : (place : Place) (ts : List Token) (o : Piece) → K ts → r place ts ≡ o
-        → K (optional ts o).1 × Optioned names place deep ts (optional ts o).0 (optional ts o).1
+        → K (part_if_any ts o).1 × Optioned names place deep ts (part_if_any ts o).0 (part_if_any ts o).1
     optional_by place ts None known e = (known, record { fits = tt; shallow = omega arith; takes = refl })
     optional_by place ts (Some x) known e =
         let g = s.good place ts x.0 x.1 known e in
         (known_part place ts x.0 x.1 known e, record { fits = (g.stand, g.fits); shallow = g.shallow; takes = g.takes })
 
     pub optional_good : (place : Place) (ts : List Token) → K ts
-        → K (optional ts (r place ts)).1 × Optioned names place deep ts (optional ts (r place ts)).0 (optional ts (r place ts)).1
+        → K (part_if_any ts (r place ts)).1 × Optioned names place deep ts (part_if_any ts (r place ts)).0 (part_if_any ts (r place ts)).1
     optional_good place ts known = optional_by place ts (r place ts) known refl
 
     value_by : (place : Place) (ts : List Token) (o : Piece) → K ts → option_and_then (r place) (after is_equals ts) ≡ o
-        → K (optional ts o).1 × Valued names place deep ts (optional ts o).0 (optional ts o).1
+        → K (part_if_any ts o).1 × Valued names place deep ts (part_if_any ts o).0 (part_if_any ts o).1
     value_by place ts None known e = (known, record { fits = tt; shallow = omega arith; takes = refl })
     value_by place ts (Some x) known e =
         let f = followed (r place) (after is_equals ts) x e in
@@ -223,11 +223,11 @@ module _ (names : Names) (K : List Token → Type 0) (spelled : IsSpelled names 
 
     -- ---- sizes and parameters
 
-    pub sized_good : (make : OptionalTree → Tree) (ts : List Token) (a : Tree) (rest : List Token) → K ts → sized make r ts ≡ Some (a, rest)
+    pub sized_good : (make : OptionalTree → Tree) (ts : List Token) (a : Tree) (rest : List Token) → K ts → size_behind make r ts ≡ Some (a, rest)
         → Sized names deep ts make a rest
-    unfolding sized
+    unfolding size_behind
     sized_good make ts a rest known e =
-        let x = optional ts (r Constants ts) in
+        let x = part_if_any ts (r Constants ts) in
         let o = optional_good Constants ts known in
         let b = bracketed_is make x a rest e in
         record {
@@ -239,11 +239,11 @@ module _ (names : Names) (K : List Token → Type 0) (spelled : IsSpelled names 
         }
 
     pub parametrized_good : (make : Trees → Bool → Tree) (ts : List Token) (a : Tree) (rest : List Token) → K ts
-        → parametrized make r ts ≡ Some (a, rest)
+        → parameters_behind make r ts ≡ Some (a, rest)
         → Parametered names deep ts make a rest
-    unfolding parametrized
+    unfolding parameters_behind
     parametrized_good make ts a rest known e =
-        let x = listed (r Parameters) ts in
+        let x = comma_list (r Parameters) ts in
         let l = listed_good Parameters ts known in
         let v = variadic_at x.0 x.1 in
         let w = varied x.0 x.1 in

@@ -20,8 +20,8 @@ use Rattle.pv_expr_forms.proofs.Naming.{names_kept}
 use Rattle.pv_decl_forms.specs.declared.forms.Form.{Form}
 use Rattle.pv_decl_forms.specs.declared.forms.Opening.{Opening}
 use Rattle.pv_decl_forms.specs.declared.forms.Opening.TheVariants as opening
-use Rattle.pv_decl_forms.specs.Pieces.{Piece, Reads, listed}
-use Rattle.pv_decl_forms.specs.Declarators.{place_of, allows_abstract, consts_in_row, sized, with_parameters, parametrized, pointed, pointer, opens_parameters, in_parentheses, opened, head_of, head, tried, longer, grown, declarator}
+use Rattle.pv_decl_forms.specs.Pieces.{Piece, Reads, comma_list}
+use Rattle.pv_decl_forms.specs.Declarators.{place_of, allows_abstract, consts_in_row, size_behind, with_parameters, parameters_behind, pointer_tree, pointer, opens_parameters, in_parentheses, behind_paren, head_of, head, declarator_on, longer_declarator, longest_declarator, declarator}
 use Rattle.pv_decl_forms.specs.Reader.{readers}
 use Rattle.pv_decl_forms.specs.Parts.{opening_of, named_of, array_of, function_of}
 use Rattle.pv_decl_forms.specs.Answers.{Answers}
@@ -53,12 +53,12 @@ module _ (names : Names) (below : Reads) (f : Form) (line : ℕ) (ts : List Toke
   by_star (kind.Mark mark.Star) e = refl
   by_star _ e = absurd cc
 
-  by_paren : (k : TokenKind) → opening_of k ≡ Some opening.Paren → opened names below f line ts ≡ head_of names below f line k ts
+  by_paren : (k : TokenKind) → opening_of k ≡ Some opening.Paren → behind_paren names below f line ts ≡ head_of names below f line k ts
   unfolding head_of
   by_paren (kind.Mark mark.OpenParen) e = refl
   by_paren _ e = absurd cc
 
-  by_bracket : (k : TokenKind) → opening_of k ≡ Some opening.Bracket → (if allows_abstract f then sized (array_of line Absent) below ts else None) ≡ head_of names below f line k ts
+  by_bracket : (k : TokenKind) → opening_of k ≡ Some opening.Bracket → (if allows_abstract f then size_behind (array_of line Absent) below ts else None) ≡ head_of names below f line k ts
   unfolding head_of
   by_bracket (kind.Mark mark.OpenBracket) e = refl
   by_bracket _ e = absurd cc
@@ -85,10 +85,10 @@ module _ (names : Names) (below : Reads) (f : Form) (ts : List Token) (t : Token
     pub head_star : o ≡ opening.Star → pointer below f t.line (consts_in_row rest) (drop (consts_in_row rest) rest) ≡ head names below f ts
     head_star h = at_first _ (by_star names below f t.line rest t.kind (so opening.Star h))
 
-    pub head_paren : o ≡ opening.Paren → opened names below f t.line rest ≡ head names below f ts
+    pub head_paren : o ≡ opening.Paren → behind_paren names below f t.line rest ≡ head names below f ts
     head_paren h = at_first _ (by_paren names below f t.line rest t.kind (so opening.Paren h))
 
-    pub head_bracket : o ≡ opening.Bracket → (if allows_abstract f then sized (array_of t.line Absent) below rest else None) ≡ head names below f ts
+    pub head_bracket : o ≡ opening.Bracket → (if allows_abstract f then size_behind (array_of t.line Absent) below rest else None) ≡ head names below f ts
     head_bracket h = at_first _ (by_bracket names below f t.line rest t.kind (so opening.Bracket h))
 
 -- a name, by the set of typedef names
@@ -99,81 +99,81 @@ named_in typedefs types u tokens f line n ts = refl
 
 -- behind `*`, once it is read what is pointed from
 pub pointer_is : (below : Reads) (f : Form) (line count : ℕ) (here behind : List Token) (o : Piece) → count ≡ consts_in_row here → behind ≡ drop count here → o ≡ below (place_of f) behind
-    → pointed f line count behind o ≡ pointer below f line (consts_in_row here) (drop (consts_in_row here) here)
+    → pointer_tree f line count behind o ≡ pointer below f line (consts_in_row here) (drop (consts_in_row here) here)
 unfolding pointer
 pointer_is below f line count here behind o c b e =
-    ap (pointed f line count behind) e
+    ap (pointer_tree f line count behind) e
     ∙ ap (λ (ts : List Token). pointer below f line count ts) b
     ∙ ap (λ (n : ℕ). pointer below f line n (drop n here)) c
 
 -- behind `(`
 module _ (names : Names) (below : Reads) (f : Form) (line : ℕ) (ts : List Token) where
-  pub opened_function : opens_parameters names ts ≡ true → allows_abstract f ≡ true → parametrized (function_of line Absent) below ts ≡ opened names below f line ts
-  unfolding opened
+  pub opened_function : opens_parameters names ts ≡ true → allows_abstract f ≡ true → parameters_behind (function_of line Absent) below ts ≡ behind_paren names below f line ts
+  unfolding behind_paren
   opened_function e a = rw (e, a) refl
 
-  pub opened_not : opens_parameters names ts ≡ true → allows_abstract f ≡ false → None ≡ opened names below f line ts
-  unfolding opened
+  pub opened_not : opens_parameters names ts ≡ true → allows_abstract f ≡ false → None ≡ behind_paren names below f line ts
+  unfolding behind_paren
   opened_not e a = rw (e, a) refl
 
-  pub opened_within : opens_parameters names ts ≡ false → (o : Piece) → o ≡ below (place_of f) ts → option_and_then (λ x. in_parentheses line x.0 x.1) o ≡ opened names below f line ts
-  unfolding opened
+  pub opened_within : opens_parameters names ts ≡ false → (o : Piece) → o ≡ below (place_of f) ts → option_and_then (λ x. in_parentheses line x.0 x.1) o ≡ behind_paren names below f line ts
+  unfolding behind_paren
   opened_within e o h = rw e (ap (option_and_then (λ (x : Tree × List Token). in_parentheses line x.0 x.1)) h)
 
 -- ---- how one goes on
 
 module _ (below : Reads) (line : ℕ) (left : Tree) (ts : List Token) where
-  on_none : (k : TokenKind) → opening_of k ≡ None → None ≡ tried below line left k ts
-  unfolding tried
+  on_none : (k : TokenKind) → opening_of k ≡ None → None ≡ declarator_on below line left k ts
+  unfolding declarator_on
   on_none (kind.Mark mark.OpenBracket) e = absurd cc
   on_none (kind.Mark mark.OpenParen) e = absurd cc
   on_none _ e = refl
 
-  on_other : (k : TokenKind) (o : Opening) → opening_of k ≡ Some o → o ≢ opening.Bracket → o ≢ opening.Paren → None ≡ tried below line left k ts
-  unfolding tried
+  on_other : (k : TokenKind) (o : Opening) → opening_of k ≡ Some o → o ≢ opening.Bracket → o ≢ opening.Paren → None ≡ declarator_on below line left k ts
+  unfolding declarator_on
   on_other (kind.Mark mark.OpenBracket) o e p q = let h : o ≡ opening.Bracket = cc in absurd (p h)
   on_other (kind.Mark mark.OpenParen) o e p q = let h : o ≡ opening.Paren = cc in absurd (q h)
   on_other _ o e p q = refl
 
-  on_bracket : (k : TokenKind) (o : Opening) → opening_of k ≡ Some o → o ≡ opening.Bracket → sized (array_of line (Present left)) below ts ≡ tried below line left k ts
-  unfolding tried
+  on_bracket : (k : TokenKind) (o : Opening) → opening_of k ≡ Some o → o ≡ opening.Bracket → size_behind (array_of line (Present left)) below ts ≡ declarator_on below line left k ts
+  unfolding declarator_on
   on_bracket (kind.Mark mark.OpenBracket) o e h = refl
   on_bracket _ o e h = absurd cc
 
-  on_paren : (k : TokenKind) (o : Opening) → opening_of k ≡ Some o → o ≡ opening.Paren → parametrized (function_of line (Present left)) below ts ≡ tried below line left k ts
-  unfolding tried
+  on_paren : (k : TokenKind) (o : Opening) → opening_of k ≡ Some o → o ≡ opening.Paren → parameters_behind (function_of line (Present left)) below ts ≡ declarator_on below line left k ts
+  unfolding declarator_on
   on_paren (kind.Mark mark.OpenParen) o e h = refl
   on_paren _ o e h = absurd cc
 
 module _ (below : Reads) (depth line : ℕ) (left : Tree) where
-  pub longer_not : (ts : List Token) → (is_direct (as_declarator left) && nat_le (declarator_depth (as_declarator left)) depth) ≡ false → None ≡ longer below depth line left ts
-  unfolding longer
+  pub longer_not : (ts : List Token) → (is_direct (as_declarator left) && nat_le (declarator_depth (as_declarator left)) depth) ≡ false → None ≡ longer_declarator below depth line left ts
+  unfolding longer_declarator
   longer_not [] e = refl
   longer_not (t ∷ ts) e = rw e refl
 
-  pub longer_end : (ts : List Token) → ts ≡ [] → None ≡ longer below depth line left ts
-  unfolding longer
-  longer_end ts e = ap (longer below depth line left) (sym e)
+  pub longer_end : (ts : List Token) → ts ≡ [] → None ≡ longer_declarator below depth line left ts
+  unfolding longer_declarator
+  longer_end ts e = ap (longer_declarator below depth line left) (sym e)
 
   module _ (may : (is_direct (as_declarator left) && nat_le (declarator_depth (as_declarator left)) depth) ≡ true) (ts : List Token) (t : Token) (rest : List Token) (is : ts ≡ t ∷ rest) where
-    first_on : tried below line left t.kind rest ≡ longer below depth line left (t ∷ rest)
-    unfolding longer
+    first_on : declarator_on below line left t.kind rest ≡ longer_declarator below depth line left (t ∷ rest)
+    unfolding longer_declarator
     first_on = rw may refl
 
-    on_first : (o : Piece) → o ≡ tried below line left t.kind rest → o ≡ longer below depth line left ts
-    on_first o e = e ∙ first_on ∙ ap (longer below depth line left) (sym is)
+    on_first : (o : Piece) → o ≡ declarator_on below line left t.kind rest → o ≡ longer_declarator below depth line left ts
+    on_first o e = e ∙ first_on ∙ ap (longer_declarator below depth line left) (sym is)
 
-    pub longer_none : opening_of t.kind ≡ None → None ≡ longer below depth line left ts
+    pub longer_none : opening_of t.kind ≡ None → None ≡ longer_declarator below depth line left ts
     longer_none e = on_first _ (on_none below line left rest t.kind e)
 
     module _ (o : Opening) (e : opening_of t.kind ≡ Some o) where
-      pub longer_other : o ≢ opening.Bracket → o ≢ opening.Paren → None ≡ longer below depth line left ts
+      pub longer_other : o ≢ opening.Bracket → o ≢ opening.Paren → None ≡ longer_declarator below depth line left ts
       longer_other p q = on_first _ (on_other below line left rest t.kind o e p q)
 
-      pub longer_bracket : o ≡ opening.Bracket → sized (array_of line (Present left)) below rest ≡ longer below depth line left ts
+      pub longer_bracket : o ≡ opening.Bracket → size_behind (array_of line (Present left)) below rest ≡ longer_declarator below depth line left ts
       longer_bracket h = on_first _ (on_bracket below line left rest t.kind o e h)
 
-      pub longer_paren : o ≡ opening.Paren → parametrized (function_of line (Present left)) below rest ≡ longer below depth line left ts
+      pub longer_paren : o ≡ opening.Paren → parameters_behind (function_of line (Present left)) below rest ≡ longer_declarator below depth line left ts
       longer_paren h = on_first _ (on_paren below line left rest t.kind o e h)
 
 -- ---- parameters behind one that may be left out
@@ -186,9 +186,9 @@ pub all_as : (u : Tables) (kind : Tree → Bool) (ns ms : List NodeId) → ms �
 all_as u kind ns ms e all = subst (λ (xs : List NodeId). All (λ n. Is u kind n) xs) (sym e) all
 
 pub parametrized_is : (u v : Tables) (tokens : List Token) (line at : ℕ) (below : Reads) (left : Option NodeId) → Extends u v → IfSome left (λ n. Is u is_declarator n) → (ns ms : List NodeId) (end : ℕ) → ms ≡ ns
-    → AreAnswered v is_declaration tokens ns end (listed (below Parameters) (drop at tokens))
-    → with_parameters (function_of line (optional_at v.forest left)) (trees_of v.forest ms, drop end tokens) ≡ parametrized (function_of line (optional_at u.forest left)) below (drop at tokens)
-unfolding parametrized
+    → AreAnswered v is_declaration tokens ns end (comma_list (below Parameters) (drop at tokens))
+    → with_parameters (function_of line (optional_at v.forest left)) (trees_of v.forest ms, drop end tokens) ≡ parameters_behind (function_of line (optional_at u.forest left)) below (drop at tokens)
+unfolding parameters_behind
 parametrized_is u v tokens line at below left keeps there ns ms end e a =
     ap (λ (o : OptionalTree). with_parameters (function_of line o) (trees_of v.forest ms, drop end tokens)) (optional_kept u v is_declarator left keeps there)
     ∙ ap (λ (xs : List NodeId). with_parameters (function_of line (optional_at u.forest left)) (trees_of v.forest xs, drop end tokens)) e
@@ -197,13 +197,13 @@ parametrized_is u v tokens line at below left keeps there ns ms end e a =
 -- ---- growth
 
 module _ (below : Reads) (depth line : ℕ) (u v : Tables) (tokens : List Token) (left : NodeId) (at : ℕ) (answer : Option (NodeId × ℕ))
-    (a : Answers v is_declarator tokens answer (longer below depth line (tree_at u.forest left) (drop at tokens))) where
+    (a : Answers v is_declarator tokens answer (longer_declarator below depth line (tree_at u.forest left) (drop at tokens))) where
   -- one that grew
-  pub grew : (n : NodeId) (next : ℕ) → answer ≡ Some (n, next) → longer below depth line (tree_at u.forest left) (drop at tokens) ≡ Some (tree_at v.forest n, drop next tokens)
+  pub grew : (n : NodeId) (next : ℕ) → answer ≡ Some (n, next) → longer_declarator below depth line (tree_at u.forest left) (drop at tokens) ≡ Some (tree_at v.forest n, drop next tokens)
   grew n next e = sym (got v is_declarator tokens answer _ n next a e).0
 
   -- one that grew no more
-  pub grew_out : (whole : Tree × List Token) → answer ≡ None → Extends u v → Is u is_declarator left → at ≤ length tokens → grown below depth line (tree_at u.forest left) (drop at tokens) ≡ whole
+  pub grew_out : (whole : Tree × List Token) → answer ≡ None → Extends u v → Is u is_declarator left → at ≤ length tokens → longest_declarator below depth line (tree_at u.forest left) (drop at tokens) ≡ whole
       → Answers v is_declarator tokens (Some (left, at)) (Some whole)
   grew_out whole e k there place same =
       let stop = sym (got_none v is_declarator tokens answer _ a e) in
@@ -225,18 +225,18 @@ declarators_are names (suc depth) f ts h = rw sub-one (sym (declarator_by names 
 module _ {S : Type 0} (typedefs : IndexSet ℕ S) (types : TypeMap) (u v : Tables) (tokens : List Token) (tied : AreTied types u tokens) (keeps : Extends u v) (depth at : ℕ) (f : Form) (positive : 0 < depth)
     (answer : Option (NodeId × ℕ)) (a : Answers v is_declarator tokens answer (head (names_in typedefs types u tokens) (readers (names_in typedefs types u tokens) (depth - 1)) f (drop at tokens))) where
   from_head : (o : Piece) → o ≡ head (names_in typedefs types u tokens) (readers (names_in typedefs types u tokens) (depth - 1)) f (drop at tokens)
-      → option_map (λ x. grown (readers (names_in typedefs types u tokens) (depth - 1)) (depth - 1) (line_here (drop at tokens)) x.0 x.1) o ≡ readers (names_in typedefs types u tokens) depth (place_of f) (drop at tokens)
+      → option_map (λ x. longest_declarator (readers (names_in typedefs types u tokens) (depth - 1)) (depth - 1) (line_here (drop at tokens)) x.0 x.1) o ≡ readers (names_in typedefs types u tokens) depth (place_of f) (drop at tokens)
   unfolding declarator
   from_head o e =
-      ap (option_map (λ (x : Tree × List Token). grown (readers (names_in typedefs types u tokens) (depth - 1)) (depth - 1) (line_here (drop at tokens)) x.0 x.1)) e
+      ap (option_map (λ (x : Tree × List Token). longest_declarator (readers (names_in typedefs types u tokens) (depth - 1)) (depth - 1) (line_here (drop at tokens)) x.0 x.1)) e
       ∙ declarators_are (names_in typedefs types u tokens) depth f (drop at tokens) positive
 
   pub declarator_none : answer ≡ None → None ≡ readers (names_in typedefs types u tokens) depth (place_of f) (drop at tokens)
   declarator_none e = from_head None (got_none v is_declarator tokens answer _ a e)
 
   pub declarator_some : (n : NodeId) (next line : ℕ) → answer ≡ Some (n, next) → line ≡ line_here (drop at tokens)
-      → Some (grown (readers (names_in typedefs types v tokens) (depth - 1)) (depth - 1) line (tree_at v.forest n) (drop next tokens)) ≡ readers (names_in typedefs types u tokens) depth (place_of f) (drop at tokens)
+      → Some (longest_declarator (readers (names_in typedefs types v tokens) (depth - 1)) (depth - 1) line (tree_at v.forest n) (drop next tokens)) ≡ readers (names_in typedefs types u tokens) depth (place_of f) (drop at tokens)
   declarator_some n next line e l =
-      ap (λ (m : Names). let y : Piece = Some (grown (readers m (depth - 1)) (depth - 1) line (tree_at v.forest n) (drop next tokens)) in y) (names_kept typedefs types u v tokens tied keeps)
-      ∙ ap (λ (k : ℕ). let y : Piece = Some (grown (readers (names_in typedefs types u tokens) (depth - 1)) (depth - 1) k (tree_at v.forest n) (drop next tokens)) in y) l
+      ap (λ (m : Names). let y : Piece = Some (longest_declarator (readers m (depth - 1)) (depth - 1) line (tree_at v.forest n) (drop next tokens)) in y) (names_kept typedefs types u v tokens tied keeps)
+      ∙ ap (λ (k : ℕ). let y : Piece = Some (longest_declarator (readers (names_in typedefs types u tokens) (depth - 1)) (depth - 1) k (tree_at v.forest n) (drop next tokens)) in y) l
       ∙ from_head (Some (tree_at v.forest n, drop next tokens)) (got v is_declarator tokens answer _ n next a e).0

@@ -13,8 +13,8 @@ use Rattle.pv_tree.proofs.Kept.{list_kept, extends_list, list_new, has_list_kept
 use Rattle.pv_expr_forms.proofs.Answered.{kept_list}
 use Rattle.pv_expr_forms.specs.Reader.{is_close, is_comma, after}
 use Rattle.pv_decl_forms.specs.Pieces.{is_ellipsis, is_close_brace, is_semicolon, found_in}
-use Rattle.pv_decl_forms.specs.Declarators.{variadic_at, closed, with_parameters}
-use Rattle.pv_decl_forms.specs.Reader.{brace_closed, listed_in_braces, row_in_braces, ended, with_members}
+use Rattle.pv_decl_forms.specs.Declarators.{variadic_at, behind_parameters, with_parameters}
+use Rattle.pv_decl_forms.specs.Reader.{brace_closed, listed_in_braces, row_in_braces, semicolon_behind, with_members}
 
 -- ---- the trees of nodes that are kept as a list
 
@@ -81,19 +81,19 @@ module _ (u v w : Tables) (ns ms : List NodeId) (i j : ListId) (one : v ≡ with
 -- a member declaration, whose parts are kept
 pub members_so : (line : ℕ) (specs a b : Trees) (f : Forest) (ns : List NodeId) (ts rest : List Token) → (length ns == 0) ≡ false → after is_semicolon ts ≡ Some rest → a ≡ specs → b ≡ trees_of f ns
     → Some (OfDeclaration (MemberDeclaration line a b), rest) ≡ with_members line specs (trees_of f ns, ts)
-unfolding with_members ended
+unfolding with_members semicolon_behind
 members_so line specs a b f ns ts rest s e p q = rw (some_of f ns s, e, p, q) refl
 
 pub declaration_so : (line : ℕ) (specs declared a b : Trees) (ts rest : List Token) → after is_semicolon ts ≡ Some rest → a ≡ specs → b ≡ declared
-    → Some (OfDeclaration (Declaration line a b), rest) ≡ ended (Declaration line specs declared) ts
-unfolding ended
+    → Some (OfDeclaration (Declaration line a b), rest) ≡ semicolon_behind (Declaration line specs declared) ts
+unfolding semicolon_behind
 declaration_so line specs declared a b ts rest e p q = rw (e, p, q) refl
 
 -- a function, whose parameters are kept
 pub function_so : (make : Trees → Bool → Tree) (f : Forest) (ns : List NodeId) (ts mid rest : List Token) (variadic : Bool) (t : Tree)
     → ◌≡◌ {A = Bool × List Token} (variadic, mid) (variadic_at (trees_of f ns) ts) → after is_close mid ≡ Some rest → t ≡ make (trees_of f ns) variadic
     → Some (t, rest) ≡ with_parameters make (trees_of f ns, ts)
-unfolding with_parameters closed
+unfolding with_parameters behind_parameters
 function_so make f ns ts mid rest variadic t e a is = rw (← e, a, is) refl
 
 pub variadic_so : (f : Forest) (ns : List NodeId) (ts : List Token) (x : Bool × List Token) → (length ns == 0) ≡ false

@@ -18,8 +18,8 @@ use Rattle.pv_expr_forms.proofs.Steps.{guarded}
 use Rattle.pv_expr_forms.proofs.Heads.{IsSpelled}
 use Rattle.pv_decl_forms.specs.declared.forms.Form.TheVariants as form
 use Rattle.pv_decl_forms.specs.Pieces.{Piece, Reads, is_const, row}
-use Rattle.pv_decl_forms.specs.Declarators.{arrayed, functioned, consts_in_row, pointed, pointing, head, tried, longer, carried, grown_for, grown, declarator}
-use Rattle.pv_decl_forms.specs.Reader.{made, with_parts, readers}
+use Rattle.pv_decl_forms.specs.Declarators.{array_tree, function_tree, consts_in_row, pointer_tree, pointing, head, declarator_on, longer_declarator, on_with, grown_for, longest_declarator, declarator}
+use Rattle.pv_decl_forms.specs.Reader.{node_readers, with_parts, readers}
 use Rattle.pv_decl_forms.proofs.Marks.{consts_taken, length_consts}
 use Rattle.pv_decl_forms.proofs.Steps.{Shortens, row_holds}
 use Rattle.pv_decl_forms.proofs.Goods.{IsSound, known_behind, sized_good, parametrized_good}
@@ -82,29 +82,29 @@ module _ (names : Names) (K : List Token → Type 0) (spelled : IsSpelled names 
   Shorter ts rest = (length rest < length ts) × K rest
 
   tried_shorter : (line : ℕ) (left : Tree) (k : TokenKind) (t : Token) (ts : List Token) (a : Tree) (rest : List Token) → K ts
-      → tried r line left k ts ≡ Some (a, rest) → Shorter (t ∷ ts) rest
-  unfolding tried
+      → declarator_on r line left k ts ≡ Some (a, rest) → Shorter (t ∷ ts) rest
+  unfolding declarator_on
   tried_shorter line left (kind.Mark mark.OpenBracket) t ts a rest known e =
-      let g = sized_good names K spelled depth r s (arrayed line left) ts a rest known e in
+      let g = sized_good names K spelled depth r s (array_tree line left) ts a rest known e in
       let ks = optional_tokens g.size ++ kind.Mark mark.CloseBracket ∷ [] in
       (omega (arith, takes_length ks ts rest g.takes), known_behind names K spelled ks ts rest g.takes known)
   tried_shorter line left (kind.Mark mark.OpenParen) t ts a rest known e =
-      let g = parametrized_good names K spelled depth r s (functioned line left) ts a rest known e in
+      let g = parametrized_good names K spelled depth r s (function_tree line left) ts a rest known e in
       let ks = (listed_tokens g.parameters ++ variadic_tokens g.variadic) ++ kind.Mark mark.CloseParen ∷ [] in
       (omega (arith, takes_length ks ts rest g.takes), known_behind names K spelled ks ts rest g.takes known)
   tried_shorter line left _ t ts a rest known e = absurd (none-some (a, rest) e)
 
-  longer_shorter : (line : ℕ) (left : Tree) (ts : List Token) (a : Tree) (rest : List Token) → K ts → longer r depth line left ts ≡ Some (a, rest)
+  longer_shorter : (line : ℕ) (left : Tree) (ts : List Token) (a : Tree) (rest : List Token) → K ts → longer_declarator r depth line left ts ≡ Some (a, rest)
       → Shorter ts rest
-  unfolding longer
+  unfolding longer_declarator
   longer_shorter line left [] a rest known e = absurd cc
   longer_shorter line left (t ∷ ts) a rest known e =
-      let g = guarded _ (tried r line left t.kind ts) (a, rest) e in
+      let g = guarded _ (declarator_on r line left t.kind ts) (a, rest) e in
       tried_shorter line left t.kind t ts a rest (spelled.tail t ts known) g.1
 
   carried_within : (go : Tree → List Token → Tree × List Token) (line : ℕ) (left : Tree) (ts : List Token) (o : Piece) → K ts
-      → longer r depth line left ts ≡ o
-      → ((a : Tree) (rest : List Token) → K rest → Within (go a rest) (a, rest)) → Within (carried go left ts o) (left, ts)
+      → longer_declarator r depth line left ts ≡ o
+      → ((a : Tree) (rest : List Token) → K rest → Within (go a rest) (a, rest)) → Within (on_with go left ts o) (left, ts)
   carried_within go line left ts None known e h = inr refl
   carried_within go line left ts (Some x) known e h =
       let k = longer_shorter line left ts x.0 x.1 known e in
@@ -114,10 +114,10 @@ module _ (names : Names) (K : List Token → Type 0) (spelled : IsSpelled names 
   unfolding grown_for
   grown_for_within zero line left ts known = inr refl
   grown_for_within (suc steps) line left ts known =
-      carried_within (grown_for steps r depth line) line left ts (longer r depth line left ts) known refl (λ a rest k. grown_for_within steps line a rest k)
+      carried_within (grown_for steps r depth line) line left ts (longer_declarator r depth line left ts) known refl (λ a rest k. grown_for_within steps line a rest k)
 
-  grown_within : (line : ℕ) (left : Tree) (ts : List Token) → K ts → Within (grown r depth line left ts) (left, ts)
-  unfolding grown
+  grown_within : (line : ℕ) (left : Tree) (ts : List Token) → K ts → Within (longest_declarator r depth line left ts) (left, ts)
+  unfolding longest_declarator
   grown_within line left ts known = grown_for_within (suc depth) line left ts known
 
 -- ---- words `const` in a row
@@ -158,7 +158,7 @@ alone_within line consts ts rest h =
 
 abstract_by : (names : Names) (depth : ℕ) (ts : List Token)
     → readers names (suc depth) AbstractDeclarators ts ≡ declarator names (readers names depth) depth form.Abstract ts
-unfolding readers with_parts made
+unfolding readers with_parts node_readers
 abstract_by names depth ts = refl
 
 module _ (names : Names) (K : List Token → Type 0) (spelled : IsSpelled names K) (depth : ℕ) where
@@ -175,7 +175,7 @@ module _ (names : Names) (K : List Token → Type 0) (spelled : IsSpelled names 
       → declarator_depth d ≤ suc depth
       → Takes (declarator_tokens d) here rest → is_direct d ≡ true → Found here (OfDeclarator d, rest)
   direct_longest d here rest known a f deep h direct = record {
-    found = grown r depth (line_here here) (OfDeclarator d) rest;
+    found = longest_declarator r depth (line_here here) (OfDeclarator d) rest;
     is = whole names K spelled depth r x form.Abstract d here rest known a f deep h direct;
     within = grown_within names K spelled depth r x.sound (line_here here) (OfDeclarator d) rest (known_behind names K spelled (declarator_tokens d) here rest h known);
   }
@@ -185,12 +185,12 @@ module _ (names : Names) (K : List Token → Type 0) (spelled : IsSpelled names 
       → t.kind ≡ kind.Mark mark.Star
       → Takes (const_tokens consts) ts rest → r AbstractDeclarators (drop (consts_in_row ts) ts) ≡ o
       → Found (t ∷ ts) (OfDeclarator (AbstractPointer line consts Absent), rest)
-  unfolding pointed
+  unfolding pointer_tree
   alone_by line consts t ts rest None known e star h is =
       let n = consts_in_row ts in
       let mid = drop n ts in
       let begun = on_line (λ l. OfDeclarator (AbstractPointer l n Absent)) line t.line mid (head names r form.Abstract (t ∷ ts)) e
-      (head_star names K spelled depth r x form.Abstract t ts n mid star (consts_taken ts) (consts_end ts) ∙ ap (pointed form.Abstract t.line n mid) is) in
+      (head_star names K spelled depth r x form.Abstract t ts n mid star (consts_taken ts) (consts_end ts) ∙ ap (pointer_tree form.Abstract t.line n mid) is) in
       record {
         found = (OfDeclarator (AbstractPointer line n Absent), mid);
         is = pointer_stays names K spelled depth r x form.Abstract (AbstractPointer line n Absent) (t ∷ ts) mid refl begun;
@@ -206,7 +206,7 @@ module _ (names : Names) (K : List Token → Type 0) (spelled : IsSpelled names 
       let m = AbstractPointer line n (Present (OfDeclarator d.0)) in
       let made_is : pointing t.line n (OfDeclarator d.0) ≡ OfDeclarator (AbstractPointer t.line n (Present (OfDeclarator d.0))) = rw unnamed refl in
       let begun = on_line (λ l. OfDeclarator (AbstractPointer l n (Present (OfDeclarator d.0)))) line t.line y.1 (head names r form.Abstract (t ∷ ts)) e
-      (head_star names K spelled depth r x form.Abstract t ts n mid star (consts_taken ts) (consts_end ts) ∙ ap (pointed form.Abstract t.line n mid) is
+      (head_star names K spelled depth r x form.Abstract t ts n mid star (consts_taken ts) (consts_end ts) ∙ ap (pointer_tree form.Abstract t.line n mid) is
       ∙ ap (λ (z : Tree). let w : Piece = Some (pointing t.line n z, y.1) in w) d.1 ∙ ap (λ (z : Tree). let w : Piece = Some (z, y.1) in w) made_is) in
       record {
         found = (OfDeclarator m, y.1);

@@ -20,7 +20,7 @@ use Rattle.pv_expr_forms.specs.Known.{names_in}
 use Rattle.pv_expr_forms.proofs.Naming.{names_kept}
 use Rattle.pv_expr_forms.proofs.Runs.{takes_length}
 use Rattle.pv_expr_forms.proofs.Spans.{IsEnd, names_spelled, at_end}
-use Rattle.pv_decl_forms.specs.Pieces.{Piece, row_on, row, after_comma, listed}
+use Rattle.pv_decl_forms.specs.Pieces.{Piece, row_on, row, after_comma, comma_list}
 use Rattle.pv_decl_forms.specs.Reader.{readers}
 use Rattle.pv_decl_forms.specs.Answers.{Answers}
 use Rattle.pv_decl_forms.specs.Rows.{AreAnswered}
@@ -163,6 +163,6 @@ comma_forward tokens end following p q c =
 pub start_row : (part : List Token → Piece) (u : Tables) (items : List NodeId) (ts : List Token) → items ≡ [] → row part (trees_of u.forest items) ts ≡ row part NoTrees ts
 start_row part u items ts e = ap (λ (ns : List NodeId). row part (trees_of u.forest ns) ts) e
 
-pub start_list : (part : List Token → Piece) (u : Tables) (items : List NodeId) (ts : List Token) → items ≡ [] → row_on (row (after_comma part)) (trees_of u.forest items) ts (part ts) ≡ listed part ts
-unfolding listed
+pub start_list : (part : List Token → Piece) (u : Tables) (items : List NodeId) (ts : List Token) → items ≡ [] → row_on (row (after_comma part)) (trees_of u.forest items) ts (part ts) ≡ comma_list part ts
+unfolding comma_list
 start_list part u items ts e = ap (λ (ns : List NodeId). row_on (row (after_comma part)) (trees_of u.forest ns) ts (part ts)) e

@@ -18,8 +18,8 @@ use Rattle.pv_expr_forms.specs.Reader.{after}
 use Rattle.pv_expr_forms.proofs.Runs.{Takes, takes_parts, takes_rest, takes_length}
 use Rattle.pv_expr_forms.proofs.Steps.{followed}
 use Rattle.pv_expr_forms.proofs.Heads.{IsSpelled}
-use Rattle.pv_decl_forms.specs.Pieces.{Piece, Reads, is_open_brace, optional, row, listed}
-use Rattle.pv_decl_forms.specs.Reader.{listed_in_braces, row_in_braces, braced, with_tag, specifier, made_of, specified, made, nothing, leaves, with_parts, readers, type_name}
+use Rattle.pv_decl_forms.specs.Pieces.{Piece, Reads, is_open_brace, part_if_any, row, comma_list}
+use Rattle.pv_decl_forms.specs.Reader.{listed_in_braces, row_in_braces, behind_open_brace, with_tag, specifier, made_of, behind_specifiers, node_readers, nothing, leaves, with_parts, readers, type_name}
 use Rattle.pv_decl_forms.proofs.Marks.{open_brace_taken}
 use Rattle.pv_decl_forms.proofs.Steps.{row_next}
 use Rattle.pv_decl_forms.proofs.Goods.{IsSound, known_behind, part_shortens, row_good, listed_good}
@@ -45,17 +45,17 @@ module _ (names : Names) (K : List Token → Type 0) (spelled : IsSpelled names 
       omega (arith, takes_length (trees_tokens x.0) ts x.1 g.1.takes, takes_length (kind.Mark mark.CloseBrace ∷ []) x.1 rest p.2)
 
   list_braced_less : (make : Trees → Bool → Tree) (ts : List Token) (a : Tree) (rest : List Token) → K ts
-      → listed_in_braces make (listed (r Enumerators) ts) ≡ Some (a, rest)
+      → listed_in_braces make (comma_list (r Enumerators) ts) ≡ Some (a, rest)
       → length rest ≤ length ts
   list_braced_less make ts a rest known e =
-      let x = listed (r Enumerators) ts in
+      let x = comma_list (r Enumerators) ts in
       let g = listed_good names K spelled depth r s Enumerators ts known in
       let p = braced_is make x a rest e in
       omega (arith, takes_length (listed_tokens x.0) ts x.1 g.1.takes, takes_length (comma_tokens p.comma ++ kind.Mark mark.CloseBrace ∷ []) x.1 rest p.takes)
 
   braced_less : (line : ℕ) (w : Word) (tag : Option ℕ) (ts : List Token) (a : Tree) (rest : List Token) → K ts
-      → braced r line w tag ts ≡ Some (a, rest) → length rest ≤ length ts
-  unfolding braced
+      → behind_open_brace r line w tag ts ≡ Some (a, rest) → length rest ≤ length ts
+  unfolding behind_open_brace
   braced_less line word.Enum tag ts a rest known e = list_braced_less _ ts a rest known e
   braced_less line w tag ts a rest known e = row_braced_less _ ts a rest known e
 
@@ -70,11 +70,11 @@ module _ (names : Names) (K : List Token → Type 0) (spelled : IsSpelled names 
       → Reaches (specifier names r (t ∷ ts)) (OfSpecifier (Tag line w n), rest)
   unfolding with_tag
   tag_reaches line n w t ts rest known e tag k h =
-      let o = option_and_then (braced r t.line w (Some n)) (after is_open_brace rest) in
+      let o = option_and_then (behind_open_brace r t.line w (Some n)) (after is_open_brace rest) in
       let tagged : specifier names r (t ∷ ts) ≡ or_else o (Some (OfSpecifier (Tag line w n), rest)) = tagged_as names r w t ts (tag_word w tag) tag k ∙ rw (tag_there n ts rest h, e) refl in
       let known' = known_behind names K spelled (kind.Name n ∷ []) ts rest h known in
       let all = or_tag o (OfSpecifier (Tag line w n)) rest (λ y is.
-      let m = followed (braced r t.line w (Some n)) (after is_open_brace rest) y is in
+      let m = followed (behind_open_brace r t.line w (Some n)) (after is_open_brace rest) y is in
       let b = open_brace_taken rest m.0 m.1 in
       let less = braced_less t.line w (Some n) m.0 y.0 y.1 (known_behind names K spelled (kind.Mark mark.OpenBrace ∷ []) rest m.0 b known') m.2 in
       omega (arith, takes_length (kind.Mark mark.OpenBrace ∷ []) rest m.0 b, less)) in
@@ -109,7 +109,7 @@ module _ (names : Names) (K : List Token → Type 0) (spelled : IsSpelled names 
   specifier_reaches : (depth : ℕ) (x : SpecifierTree) (here rest : List Token) → K here → SpecifierFits names.is_type (Fits names) x here
       → specifier_depth x ≤ depth
       → Takes (specifier_tokens x) here rest → Reaches (readers names depth Specifiers here) (OfSpecifier x, rest)
-  unfolding readers with_parts made
+  unfolding readers with_parts node_readers
   specifier_reaches zero x here rest known f d h = zero_reaches x here rest known f d h
   specifier_reaches (suc depth) x here rest known f d h = more_reaches depth x here rest known f d h
 
@@ -188,14 +188,14 @@ module _ (names : Names) (K : List Token → Type 0) (spelled : IsSpelled names 
 
   -- once the specifiers are read
   made_reaches : (line : ℕ) (specs : Trees) (o : Piece) (mid : List Token) → ((y : Tree × List Token) → o ≡ Some y → length y.1 < length mid)
-      → Reaches (made_of (TypeName line) specs (optional mid o)) (OfDeclaration (TypeName line specs Absent), mid)
+      → Reaches (made_of (TypeName line) specs (part_if_any mid o)) (OfDeclaration (TypeName line specs Absent), mid)
   made_reaches line specs None mid h = reached _ _ mid refl
   made_reaches line specs (Some y) mid h = record { found = (OfDeclaration (TypeName line specs (Present y.0)), y.1); is = refl; within = inl (h y refl) }
 
   specs_by : (depth : ℕ) (here : List Token) → K here → (x : Trees × List Token) → row (readers names depth Specifiers) NoTrees here ≡ x
       → some x.0 ≡ true
       → Reaches (type_name names depth here) (OfDeclaration (TypeName (line_here here) x.0 Absent), x.1)
-  unfolding type_name specified
+  unfolding type_name behind_specifiers
   specs_by depth here known x is has =
       let s = readers_sound names K spelled depth in
       let r = readers names depth in
@@ -236,7 +236,7 @@ module _ (names : Names) (K : List Token → Type 0) (spelled : IsSpelled names 
       → row (readers names depth Specifiers) NoTrees here ≡ (specs, mid)
       → Reaches (readers names depth AbstractDeclarators mid) (OfDeclarator d, rest)
       → Reaches (type_name names depth here) (OfDeclaration (TypeName (line_here here) specs (Present (OfDeclarator d))), rest)
-  unfolding type_name specified
+  unfolding type_name behind_specifiers
   behind_longest depth specs d here mid rest known has is o = record {
     found = (OfDeclaration (TypeName (line_here here) specs (Present o.found.0)), o.found.1);
     is = rw (is, has, o.is) refl;

@@ -18,7 +18,7 @@ use Rattle.pv_expr_forms.proofs.Runs.{Takes, takes_parts, takes_rest, parts_at}
 use Rattle.pv_expr_forms.proofs.Steps.{some_is}
 use Rattle.pv_expr_forms.proofs.Heads.{IsSpelled}
 use Rattle.pv_decl_forms.specs.declared.forms.Form.TheVariants as form
-use Rattle.pv_decl_forms.specs.Declarators.{parametrized}
+use Rattle.pv_decl_forms.specs.Declarators.{parameters_behind}
 use Rattle.pv_decl_forms.specs.Pieces.{Piece}
 use Rattle.pv_decl_forms.specs.Reader.{readers, type_name, as_type_name, HasTypeNames}
 use Rattle.pv_decl_forms.proofs.Stops.{Closes, closes_on}
@@ -215,7 +215,7 @@ module _ (is_type : ℕ → Bool) (K : List Token → Type 0) (deep : ℕ) (here
 
   other_list : (f g : List Token → Option (DeclarationTree × List Token)) → IsSpelled (names_at f) K → IsSpelled (names_at g) K → Agree f g
       → (make : Trees → Bool → Tree) (x : Tree × List Token)
-      → parametrized make (readers (names_at f) deep) here ≡ Some x → parametrized make (readers (names_at g) deep) here ≡ Some x
+      → parameters_behind make (readers (names_at f) deep) here ≡ Some x → parameters_behind make (readers (names_at g) deep) here ≡ Some x
   other_list f g sf sg agree make x e =
       let t = parametrized_good (names_at f) K sf deep (readers (names_at f) deep) (readers_sound (names_at f) K sf deep) make here x.0 x.1 known e in
       let run = front (listed_tokens t.parameters) (variadic_tokens t.variadic) here (front (listed_tokens t.parameters ++ variadic_tokens t.variadic) (kind.Mark mark.CloseParen ∷ []) here (x.1, t.takes)) in
@@ -230,7 +230,7 @@ module _ (is_type : ℕ → Bool) (K : List Token → Type 0) (deep : ℕ) (here
 
   list_by : (f g : List Token → Option (DeclarationTree × List Token)) → IsSpelled (names_at f) K → IsSpelled (names_at g) K → Agree f g → Agree g f
       → (make : Trees → Bool → Tree) (o p : Piece)
-      → parametrized make (readers (names_at f) deep) here ≡ o → parametrized make (readers (names_at g) deep) here ≡ p → o ≡ p
+      → parameters_behind make (readers (names_at f) deep) here ≡ o → parameters_behind make (readers (names_at g) deep) here ≡ p → o ≡ p
   list_by f g sf sg fg gf make (Some x) p e q = sym (other_list f g sf sg fg make x e) ∙ q
   list_by f g sf sg fg gf make None None e q = refl
   list_by f g sf sg fg gf make None (Some y) e q = let clash : ◌≡◌ {A = Piece} None (Some y) = sym e ∙ other_list g f sg sf gf make y q in absurd cc
@@ -238,6 +238,6 @@ module _ (is_type : ℕ → Bool) (K : List Token → Type 0) (deep : ℕ) (here
   pub list_agrees : (f g : List Token → Option (DeclarationTree × List Token)) → IsSpelled (names_at f) K → IsSpelled (names_at g) K
       → ((o : Token) (ts : List Token) → IsWithin here (o ∷ ts) → o.kind ≡ kind.Mark mark.OpenParen → f ts ≡ g ts)
       → (make : Trees → Bool → Tree)
-      → parametrized make (readers (names_at f) deep) here ≡ parametrized make (readers (names_at g) deep) here
+      → parameters_behind make (readers (names_at f) deep) here ≡ parameters_behind make (readers (names_at g) deep) here
   list_agrees f g sf sg agree make =
-      list_by f g sf sg agree (λ o ts w k. sym (agree o ts w k)) make (parametrized make (readers (names_at f) deep) here) (parametrized make (readers (names_at g) deep) here) refl refl
+      list_by f g sf sg agree (λ o ts w k. sym (agree o ts w k)) make (parameters_behind make (readers (names_at f) deep) here) (parameters_behind make (readers (names_at g) deep) here) refl refl

@@ -23,7 +23,7 @@ use Rattle.pv_expr_forms.proofs.Wholes.{exact_by}
 use Rattle.pv_expr_forms.proofs.Whole.{whole}
 use Rattle.pv_decl_forms.specs.declared.forms.Form.TheVariants as form
 use Rattle.pv_decl_forms.specs.Pieces.{Reads, is_open_brace, row}
-use Rattle.pv_decl_forms.specs.Reader.{tag_at, braced, with_tag, specifier_of, specifier, parameter, initializer}
+use Rattle.pv_decl_forms.specs.Reader.{tag_at, behind_open_brace, with_tag, specifier_of, specifier, parameter, initializer}
 use Rattle.pv_decl_forms.proofs.Marks.{open_brace_taken, tag_taken}
 use Rattle.pv_decl_forms.proofs.Goods.{known_behind, part_shortens, comma_shortens}
 use Rattle.pv_decl_forms.proofs.Stops.{Stops, Closes, closes_ends, read_brace, brace_not}
@@ -82,7 +82,7 @@ module _ (names : Names) (K : List Token → Type 0) (spelled : IsSpelled names 
 
   -- with braces
   braced_as : (w : Word) (line : ℕ) (tag : Option ℕ) (ks : List TokenKind) (ts rest : List Token) (o : Opened tag ks ts rest) (y : Tree × List Token)
-      → braced r line w tag o.inner ≡ Some y → with_tag r line w (tag_at ts) ≡ Some y
+      → behind_open_brace r line w tag o.inner ≡ Some y → with_tag r line w (tag_at ts) ≡ Some y
   unfolding with_tag
   braced_as w line tag ks ts rest o y e = rw (o.brace, o.tag_is, e) refl
 
@@ -90,8 +90,8 @@ module _ (names : Names) (K : List Token → Type 0) (spelled : IsSpelled names 
       → some members ≡ true
       → RowFits names.is_type (Fits names) Members members ts → trees_depth members ≤ depth
       → Takes (trees_tokens members ++ kind.Mark mark.CloseBrace ∷ []) ts rest
-      → braced r line w tag ts ≡ Some (OfSpecifier (Composite line w tag members), rest)
-  unfolding braced
+      → behind_open_brace r line w tag ts ≡ Some (OfSpecifier (Composite line w tag members), rest)
+  unfolding behind_open_brace
   braced_members word.Struct line tag members ts rest known c has f d h =
       row_braces_exact names K spelled Members depth (r Members) (x.exact Members refl) (x.shut Members) (part_shortens names K spelled depth r x.sound Members) (members_start names)
       (λ ms. OfSpecifier (Composite line word.Struct tag ms)) members ts rest known has f d h
@@ -103,8 +103,8 @@ module _ (names : Names) (K : List Token → Type 0) (spelled : IsSpelled names 
   braced_enumerators : (line : ℕ) (tag : Option ℕ) (enumerators : Trees) (comma : Bool) (ts rest : List Token) → K ts → some enumerators ≡ true
       → ListFits names.is_type (Fits names) Enumerators enumerators ts → trees_depth enumerators ≤ depth
       → Takes ((listed_tokens enumerators ++ comma_tokens comma) ++ kind.Mark mark.CloseBrace ∷ []) ts rest
-      → braced r line word.Enum tag ts ≡ Some (OfSpecifier (Enumeration line tag enumerators comma), rest)
-  unfolding braced
+      → behind_open_brace r line word.Enum tag ts ≡ Some (OfSpecifier (Enumeration line tag enumerators comma), rest)
+  unfolding behind_open_brace
   braced_enumerators line tag enumerators comma ts rest known has f d h =
       braces_exact names K spelled Enumerators depth (r Enumerators) (x.exact Enumerators refl) (x.shut Enumerators) (comma_shortens names K spelled depth r x.sound Enumerators)
       (λ es c. OfSpecifier (Enumeration line tag es c)) enumerators comma ts rest known has f d h

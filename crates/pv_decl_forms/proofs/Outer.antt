@@ -17,11 +17,11 @@ use Rattle.pv_expr_forms.specs.Known.{names_in}
 use Rattle.pv_expr_forms.specs.Spelled.{IsSpelled, IsLongest, IsOnly, NothingSpells}
 use Rattle.pv_expr_forms.proofs.Naming.{names_kept}
 use Rattle.pv_expr_forms.proofs.Steps.{some_is}
-use Rattle.pv_decl_forms.specs.Pieces.{Piece, Reads, is_semicolon, optional, row, after_comma}
+use Rattle.pv_decl_forms.specs.Pieces.{Piece, Reads, is_semicolon, part_if_any, row, after_comma}
 use Rattle.pv_decl_forms.specs.Grammar.{opens_block, SpellsDeclaration}
 use Rattle.pv_decl_forms.specs.Declarators.{declarator}
-use Rattle.pv_decl_forms.specs.Reader.{specified, made_of, member, enumerator, ended, initialized, init_declarator, made, leaves, with_parts, readers, type_name, declared, after_declarator, after_specifiers, declaration_with, declaration}
-use Rattle.pv_decl_forms.specs.Answers.{seen, Answers}
+use Rattle.pv_decl_forms.specs.Reader.{behind_specifiers, made_of, member, enumerator, semicolon_behind, declarator_and_value, init_declarator, node_readers, leaves, with_parts, readers, type_name, behind_declarators, after_declarator, after_specifiers, declaration_with, declaration}
+use Rattle.pv_decl_forms.specs.Answers.{piece_from, Answers}
 use Rattle.pv_decl_forms.specs.Rows.{AreAnswered}
 use Rattle.pv_decl_forms.proofs.Answered.{moved, got, got_none}
 use Rattle.pv_decl_forms.proofs.Listing.{some_of, none_of}
@@ -43,7 +43,7 @@ moved_at_start typedefs types u v w tokens tied keeps kind result reading h =
 -- ---- an init-declarator
 
 init_declarator_by : (names : Names) (depth : ℕ) (ts : List Token) → init_declarator (readers names depth) ts ≡ readers names depth InitDeclarators ts
-unfolding readers with_parts leaves made init_declarator declarator member enumerator initialized
+unfolding readers with_parts leaves node_readers init_declarator declarator member enumerator declarator_and_value
 init_declarator_by names zero ts = refl
 init_declarator_by names (suc depth) ts = refl
 
@@ -54,7 +54,7 @@ module _ (names : Names) (depth : ℕ) (ts : List Token) (v : Tables) (tokens : 
   init_none e = rw (← init_declarator_by names depth ts, ← got_none v is_declarator tokens answer _ a e) refl
 
   pub init_some : (d : NodeId) (end : ℕ) → answer ≡ Some (d, end)
-      → ◌≡◌ {A = Piece} (Some (initialized (readers names depth) (line_here ts) (tree_at v.forest d) (drop end tokens))) (readers names depth InitDeclarators ts)
+      → ◌≡◌ {A = Piece} (Some (declarator_and_value (readers names depth) (line_here ts) (tree_at v.forest d) (drop end tokens))) (readers names depth InitDeclarators ts)
   unfolding init_declarator
   init_some d end e = rw (← init_declarator_by names depth ts, ← (got v is_declarator tokens answer _ d end a e).0) refl
 
@@ -98,13 +98,13 @@ no_semicolon tokens ts None m e = m
 no_semicolon tokens ts (Some next) m e = absurd cc
 
 pub ends_here : (r : Reads) (line : ℕ) (specs : Trees) (ts rest : List Token) → after is_semicolon ts ≡ Some rest
-    → ended (Declaration line specs NoTrees) ts ≡ after_specifiers r line specs ts
-unfolding after_specifiers ended
+    → semicolon_behind (Declaration line specs NoTrees) ts ≡ after_specifiers r line specs ts
+unfolding after_specifiers semicolon_behind
 ends_here r line specs ts rest e = rw e refl
 
 goes_on : (r : Reads) (line : ℕ) (specs : Trees) (ts : List Token) → after is_semicolon ts ≡ None → (o : Piece) → o ≡ r MemberDeclarators ts
     → option_and_then (λ x. after_declarator r line (line_here ts) specs x.0 x.1) o ≡ after_specifiers r line specs ts
-unfolding after_specifiers ended
+unfolding after_specifiers semicolon_behind
 goes_on r line specs ts e o h = rw (e, h) refl
 
 module _ (u v : Tables) (tokens : List Token) (r : Reads) (line at : ℕ) (specs : List NodeId) (nodes : All (λ n. Is u is_specifier n) specs) (keeps : Extends u v)
@@ -118,27 +118,27 @@ module _ (u v : Tables) (tokens : List Token) (r : Reads) (line at : ℕ) (specs
     from_declarator = goes_on r line (trees_of u.forest specs) (drop at tokens) stands (Some (tree_at v.forest d, drop end tokens)) (got v is_declarator tokens answer _ d end a e).0
 
     pub specified_head : opens_block (drop end tokens) ≡ true
-        → made_of (Parameter line) (trees_of v.forest specs) (optional (drop at tokens) (seen v.forest tokens (Some (d, end)))) ≡ after_specifiers r line (trees_of u.forest specs) (drop at tokens)
+        → made_of (Parameter line) (trees_of v.forest specs) (part_if_any (drop at tokens) (piece_from v.forest tokens (Some (d, end)))) ≡ after_specifiers r line (trees_of u.forest specs) (drop at tokens)
     unfolding after_declarator
     specified_head b =
         ap (λ (x : Trees). made_of (Parameter line) x (Present (tree_at v.forest d), drop end tokens)) (trees_kept is_specifier u v keeps specs nodes)
         ∙ rw b at from_declarator
 
     module _ (b : opens_block (drop end tokens) ≡ false) (w : Tables) (first : NodeId) (behind : ℕ)
-        (one : ◌≡◌ {A = Piece} (Some (tree_at w.forest first, drop behind tokens)) (Some (initialized r (line_here (drop at tokens)) (tree_at v.forest d) (drop end tokens))))
+        (one : ◌≡◌ {A = Piece} (Some (tree_at w.forest first, drop behind tokens)) (Some (declarator_and_value r (line_here (drop at tokens)) (tree_at v.forest d) (drop end tokens))))
         (x : Tables) (grows : Extends u x) (ns : List NodeId) (last : ℕ)
         (all : AreAnswered x is_declaration tokens ns last (row (after_comma (r InitDeclarators)) (Then NoTrees (tree_at w.forest first)) (drop behind tokens))) where
       from_first : (y : Tree × List Token) → ◌≡◌ {A = Tree × List Token} (tree_at w.forest first, drop behind tokens) y
           → ◌≡◌ {A = Trees × List Token} (trees_of x.forest ns, drop last tokens) (row (after_comma (r InitDeclarators)) (Then NoTrees y.0) y.1)
       from_first y h = all.is ∙ ap (λ (z : Tree × List Token). row (after_comma (r InitDeclarators)) (Then NoTrees z.0) z.1) h
 
-      pub specified_list : ended (Declaration line (trees_of x.forest specs) (trees_of x.forest ns)) (drop last tokens) ≡ after_specifiers r line (trees_of u.forest specs) (drop at tokens)
-      unfolding after_declarator declared
+      pub specified_list : semicolon_behind (Declaration line (trees_of x.forest specs) (trees_of x.forest ns)) (drop last tokens) ≡ after_specifiers r line (trees_of u.forest specs) (drop at tokens)
+      unfolding after_declarator behind_declarators
       specified_list =
-          let y = initialized r (line_here (drop at tokens)) (tree_at v.forest d) (drop end tokens) in
+          let y = declarator_and_value r (line_here (drop at tokens)) (tree_at v.forest d) (drop end tokens) in
           let same : ◌≡◌ {A = Tree × List Token} (tree_at w.forest first, drop behind tokens) y = some_is _ _ one in
-          ap (λ (s : Trees). ended (Declaration line s (trees_of x.forest ns)) (drop last tokens)) (trees_kept is_specifier u x grows specs nodes)
-          ∙ ap (λ (z : Trees × List Token). ended (Declaration line (trees_of u.forest specs) z.0) z.1) (from_first y same)
+          ap (λ (s : Trees). semicolon_behind (Declaration line s (trees_of x.forest ns)) (drop last tokens)) (trees_kept is_specifier u x grows specs nodes)
+          ∙ ap (λ (z : Trees × List Token). semicolon_behind (Declaration line (trees_of u.forest specs) z.0) z.1) (from_first y same)
           ∙ rw b at from_declarator
 
 -- ---- a declaration
@@ -169,15 +169,15 @@ module _ (names : Names) (depth : ℕ) (ts : List Token) (positive : 0 < depth) 
 module _ (names : Names) (depth : ℕ) (ts : List Token) (v : Tables) (tokens : List Token) (specs : List NodeId) (next : ℕ)
     (a : AreAnswered v is_specifier tokens specs next (row (readers names depth Specifiers) NoTrees ts)) where
   pub type_name_none_by : (length specs == 0) ≡ true → None ≡ type_name names depth ts
-  unfolding type_name specified
+  unfolding type_name behind_specifiers
   type_name_none_by e = rw (← a.is, none_of v.forest specs e) refl
 
   pub type_name_some_by : (length specs == 0) ≡ false → (w : Tables) → Extends v w → (answer : Option (NodeId × ℕ)) → Answers w is_declarator tokens answer (readers names depth AbstractDeclarators (drop next tokens))
-      → made_of (TypeName (line_here ts)) (trees_of w.forest specs) (optional (drop next tokens) (seen w.forest tokens answer)) ≡ type_name names depth ts
-  unfolding type_name specified
+      → made_of (TypeName (line_here ts)) (trees_of w.forest specs) (part_if_any (drop next tokens) (piece_from w.forest tokens answer)) ≡ type_name names depth ts
+  unfolding type_name behind_specifiers
   type_name_some_by e w keeps answer b =
       rw (← a.is, some_of v.forest specs e, ← b.is)
-      (ap (λ (x : Trees). made_of (TypeName (line_here ts)) x (optional (drop next tokens) (seen w.forest tokens answer))) (trees_kept is_specifier v w keeps specs a.there))
+      (ap (λ (x : Trees). made_of (TypeName (line_here ts)) x (part_if_any (drop next tokens) (piece_from w.forest tokens answer))) (trees_kept is_specifier v w keeps specs a.there))
 
 -- ---- under the names as the clauses have them
 

@@ -16,8 +16,8 @@ use Rattle.pv_expr_forms.proofs.Runs.{Takes, takes_then, takes_parts, takes_rest
 use Rattle.pv_expr_forms.proofs.Steps.{guarded, unless, mapped}
 use Rattle.pv_expr_forms.proofs.Heads.{IsSpelled}
 use Rattle.pv_decl_forms.specs.declared.forms.Form.TheVariants as form
-use Rattle.pv_decl_forms.specs.Pieces.{Piece, Reads, is_semicolon, is_close_brace, found_in, optional, value, row, listed}
-use Rattle.pv_decl_forms.specs.Reader.{brace_closed, listed_in_braces, row_in_braces, name_of, made_of, specified, ended, with_members, member_with, member, enumerator_of, enumerator, initialized, init_declarator, with_parts}
+use Rattle.pv_decl_forms.specs.Pieces.{Piece, Reads, is_semicolon, is_close_brace, found_in, part_if_any, value, row, comma_list}
+use Rattle.pv_decl_forms.specs.Reader.{brace_closed, listed_in_braces, row_in_braces, name_of, made_of, behind_specifiers, semicolon_behind, with_members, member_with, member, enumerator_of, enumerator, declarator_and_value, init_declarator, with_parts}
 use Rattle.pv_decl_forms.proofs.Marks.{comma_found, close_brace_taken, semicolon_taken, name_is}
 use Rattle.pv_decl_forms.proofs.Steps.{piece_is}
 use Rattle.pv_decl_forms.proofs.Goods.{Good, IsSound, Rowed, good_at, left_spells, known_behind, row_good, listed_good, optional_good, value_good}
@@ -81,11 +81,11 @@ pub record Specified (names : Names) (place : Place) (deep : ℕ) (here : List T
 module _ (names : Names) (K : List Token → Type 0) (spelled : IsSpelled names K) where
   module _ (deep : ℕ) (r : Reads) (s : IsSound names K deep r) where
     pub specified_good : (place : Place) (make : Trees → OptionalTree → DeclarationTree) (ts : List Token) (a : Tree) (rest : List Token) → K ts
-        → specified make (r place) (row (r Specifiers) NoTrees ts) ≡ Some (a, rest) → Specified names place deep ts make a rest
-    unfolding specified
+        → behind_specifiers make (r place) (row (r Specifiers) NoTrees ts) ≡ Some (a, rest) → Specified names place deep ts make a rest
+    unfolding behind_specifiers
     specified_good place make ts a rest known e =
         let x = row (r Specifiers) NoTrees ts in
-        let o = optional x.1 (r place x.1) in
+        let o = part_if_any x.1 (r place x.1) in
         let g = guarded (some x.0) (made_of make x.0 o) (a, rest) e in
         let same = piece_is _ _ _ _ g.1 in
         let b = row_good names K spelled deep r s Specifiers ts known in
@@ -108,12 +108,12 @@ module _ (names : Names) (K : List Token → Type 0) (spelled : IsSpelled names 
 
     member_by : (ts : List Token) (x : Trees × List Token) (a : Tree) (rest : List Token) → Rowed names Specifiers deep ts x.0 x.1 → some x.0 ≡ true
         → K x.1
-        → with_members (line_here ts) x.0 (listed (r MemberDeclarators) x.1) ≡ Some (a, rest) → Good names Members deep ts a rest
-    unfolding with_members ended
+        → with_members (line_here ts) x.0 (comma_list (r MemberDeclarators) x.1) ≡ Some (a, rest) → Good names Members deep ts a rest
+    unfolding with_members semicolon_behind
     member_by ts x a rest b has known e =
-        let y = listed (r MemberDeclarators) x.1 in
+        let y = comma_list (r MemberDeclarators) x.1 in
         let d = MemberDeclaration (line_here ts) x.0 y.0 in
-        let g = guarded (some y.0) (ended d y.1) (a, rest) e in
+        let g = guarded (some y.0) (semicolon_behind d y.1) (a, rest) e in
         let m = mapped (λ (z : List Token). let w : Tree × List Token = (OfDeclaration d, z) in w) (after is_semicolon y.1) (a, rest) g.1 in
         let l = listed_good names K spelled deep r s MemberDeclarators x.1 known in
         let at = takes_rest (trees_tokens x.0) ts x.1 b.takes in
@@ -130,7 +130,7 @@ module _ (names : Names) (K : List Token → Type 0) (spelled : IsSpelled names 
     unfolding member member_with
     member_good ts a rest known e =
         let x = row (r Specifiers) NoTrees ts in
-        let g = guarded (some x.0) (with_members (line_here ts) x.0 (listed (r MemberDeclarators) x.1)) (a, rest) e in
+        let g = guarded (some x.0) (with_members (line_here ts) x.0 (comma_list (r MemberDeclarators) x.1)) (a, rest) e in
         let b = row_good names K spelled deep r s Specifiers ts known in
         member_by ts x a rest b.1 g.0 b.0 g.1
 
@@ -157,8 +157,8 @@ module _ (names : Names) (K : List Token → Type 0) (spelled : IsSpelled names 
     enumerator_good (t ∷ ts) a rest known e = enumerator_by (name_of t.kind) t ts a rest (spelled.tail t ts known) refl e
 
     initialized_by : (here : List Token) (d : DeclaratorTree) (ts : List Token) → K ts → Good names MemberDeclarators deep here (OfDeclarator d) ts
-        → let x = initialized r (line_here here) (OfDeclarator d) ts in K x.1 × Good names InitDeclarators deep here x.0 x.1
-    unfolding initialized
+        → let x = declarator_and_value r (line_here here) (OfDeclarator d) ts in K x.1 × Good names InitDeclarators deep here x.0 x.1
+    unfolding declarator_and_value
     initialized_by here d ts known g =
         let v = value (r Initializers) ts in
         let w = value_good names K spelled deep r s Initializers ts known in
@@ -174,20 +174,20 @@ module _ (names : Names) (K : List Token → Type 0) (spelled : IsSpelled names 
         )
 
     pub initialized_good : (here : List Token) (t : Tree) (ts : List Token) → K ts → Good names MemberDeclarators deep here t ts
-        → let x = initialized r (line_here here) t ts in K x.1 × Good names InitDeclarators deep here x.0 x.1
+        → let x = declarator_and_value r (line_here here) t ts in K x.1 × Good names InitDeclarators deep here x.0 x.1
     initialized_good here t ts known g =
         let d = declarator_stands form.Named t g.stand in
-        subst (λ (y : Tree). let x = initialized r (line_here here) y ts in K x.1 × Good names InitDeclarators deep here x.0 x.1) (sym d.1)
+        subst (λ (y : Tree). let x = declarator_and_value r (line_here here) y ts in K x.1 × Good names InitDeclarators deep here x.0 x.1) (sym d.1)
         (initialized_by here d.0 ts known (subst (λ (y : Tree). Good names MemberDeclarators deep here y ts) d.1 g))
 
     init_declarator_good : (ts : List Token) (a : Tree) (rest : List Token) → K ts → init_declarator r ts ≡ Some (a, rest)
         → Good names InitDeclarators deep ts a rest
     unfolding init_declarator
     init_declarator_good ts a rest known e =
-        let m = mapped (λ (x : Tree × List Token). initialized r (line_here ts) x.0 x.1) (r MemberDeclarators ts) (a, rest) e in
+        let m = mapped (λ (x : Tree × List Token). declarator_and_value r (line_here ts) x.0 x.1) (r MemberDeclarators ts) (a, rest) e in
         let g = s.good MemberDeclarators ts m.0.0 m.0.1 known m.1 in
         let i = initialized_good ts m.0.0 m.0.1 (known_behind names K spelled (tree_tokens m.0.0) ts m.0.1 g.takes known) g in
-        good_at names InitDeclarators deep ts (initialized r (line_here ts) m.0.0 m.0.1) a rest m.2 i.1
+        good_at names InitDeclarators deep ts (declarator_and_value r (line_here ts) m.0.0 m.0.1) a rest m.2 i.1
 
     parts_good : (place : Place) (ts : List Token) (a : Tree) (rest : List Token) → K ts → with_parts names r place ts ≡ Some (a, rest)
         → Good names place deep ts a rest

@@ -11,7 +11,7 @@ use Rattle.pv_decl_forms.specs.declared.forms.Form.{Form}
 use Rattle.pv_decl_forms.specs.declared.forms.Form.TheVariants as form
 use Rattle.pv_decl_forms.specs.Pieces.{row_on, row, after_comma}
 use Rattle.pv_decl_forms.specs.Declarators.{place_of, declarator}
-use Rattle.pv_decl_forms.specs.Reader.{nothing, specifier, parameter, initializer, member_with, member, enumerator_of, enumerator, made, leaves, with_parts, readers}
+use Rattle.pv_decl_forms.specs.Reader.{nothing, specifier, parameter, initializer, member_with, member, enumerator_of, enumerator, node_readers, leaves, with_parts, readers}
 use Rattle.pv_decl_forms.proofs.Steps.{row_step}
 use Rattle.pv_decl_forms.proofs.Goods.{part_shortens, comma_shortens}
 use Rattle.pv_decl_forms.proofs.Sound.{readers_sound}
@@ -19,7 +19,7 @@ use Rattle.pv_decl_forms.proofs.Sound.{readers_sound}
 -- ---- nodes
 
 pub specifier_by : (names : Names) (depth : ℕ) (ts : List Token) → readers names (suc depth) Specifiers ts ≡ specifier names (readers names depth) ts
-unfolding readers with_parts made
+unfolding readers with_parts node_readers
 specifier_by names depth ts = refl
 
 pub leaf_by : (names : Names) (ts : List Token) → readers names zero Specifiers ts ≡ specifier names nothing ts
@@ -28,7 +28,7 @@ leaf_by names ts = refl
 
 pub declarator_by : (names : Names) (depth : ℕ) (f : Form) (ts : List Token)
     → readers names (suc depth) (place_of f) ts ≡ declarator names (readers names depth) depth f ts
-unfolding readers with_parts made
+unfolding readers with_parts node_readers
 declarator_by names depth form.Named ts = refl
 declarator_by names depth form.Abstract ts = refl
 declarator_by names depth form.Either ts = refl
@@ -40,7 +40,7 @@ no_declarator names form.Abstract ts = refl
 no_declarator names form.Either ts = refl
 
 pub parameter_by : (names : Names) (depth : ℕ) (ts : List Token) → readers names (suc depth) Parameters ts ≡ parameter (readers names depth) ts
-unfolding readers with_parts made
+unfolding readers with_parts node_readers
 parameter_by names depth ts = refl
 
 pub no_parameter : (names : Names) (ts : List Token) → readers names zero Parameters ts ≡ None
@@ -49,18 +49,18 @@ no_parameter names ts = refl
 
 pub initializer_by : (names : Names) (depth : ℕ) (ts : List Token)
     → readers names (suc depth) Initializers ts ≡ initializer names (readers names depth) depth ts
-unfolding readers with_parts made
+unfolding readers with_parts node_readers
 initializer_by names depth ts = refl
 
 -- ---- what is no node of its own
 
 pub member_by : (names : Names) (depth : ℕ) (ts : List Token) → readers names depth Members ts ≡ member (readers names depth) ts
-unfolding readers with_parts made leaves member member_with
+unfolding readers with_parts node_readers leaves member member_with
 member_by names zero ts = refl
 member_by names (suc depth) ts = refl
 
 pub enumerator_by : (names : Names) (depth : ℕ) (ts : List Token) → readers names depth Enumerators ts ≡ enumerator names (readers names depth) ts
-unfolding readers with_parts made leaves enumerator enumerator_of
+unfolding readers with_parts node_readers leaves enumerator enumerator_of
 enumerator_by names zero ts = refl
 enumerator_by names (suc depth) ts = refl
 

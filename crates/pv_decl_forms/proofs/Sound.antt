@@ -22,8 +22,8 @@ use Rattle.pv_expr_forms.proofs.Trees.{some_tokens}
 use Rattle.pv_expr_forms.proofs.Heads.{IsSpelled}
 use Rattle.pv_expr_forms.proofs.Sound.{read_sound}
 use Rattle.pv_decl_forms.specs.declared.forms.Form.TheVariants as form
-use Rattle.pv_decl_forms.specs.Pieces.{Piece, Reads, is_open_brace, row, listed}
-use Rattle.pv_decl_forms.specs.Reader.{listed_in_braces, row_in_braces, tag_at, tag_alone, braced, with_tag, specifier_of, specifier, parameter, initializer, made, nothing, leaves, readers}
+use Rattle.pv_decl_forms.specs.Pieces.{Piece, Reads, is_open_brace, row, comma_list}
+use Rattle.pv_decl_forms.specs.Reader.{listed_in_braces, row_in_braces, tag_at, tag_alone, behind_open_brace, with_tag, specifier_of, specifier, parameter, initializer, node_readers, nothing, leaves, readers}
 use Rattle.pv_decl_forms.proofs.Marks.{open_brace_taken, open_brace_is, tag_taken}
 use Rattle.pv_decl_forms.proofs.Steps.{piece_is}
 use Rattle.pv_decl_forms.proofs.Goods.{Good, IsSound, good_at, known_behind, row_good, listed_good}
@@ -34,7 +34,7 @@ use Rattle.pv_decl_forms.proofs.Parts.{braced_is, row_braced_is, takes_listed, o
 module _ (names : Names) (K : List Token → Type 0) (spelled : IsSpelled names K) where
   -- specifiers, whose braces are spelled so
   module _ (top : ℕ) (r : Reads) (braces : (w : Word) (t : Token) (ts mid : List Token) (a : Tree) (rest : List Token) → is_tag_word w ≡ true → t.kind ≡ kind.Word w → K mid
-      → after is_open_brace (tag_at ts).1 ≡ Some mid → braced r t.line w (tag_at ts).0 mid ≡ Some (a, rest) → Good names Specifiers top (t ∷ ts) a rest) where
+      → after is_open_brace (tag_at ts).1 ≡ Some mid → behind_open_brace r t.line w (tag_at ts).0 mid ≡ Some (a, rest) → Good names Specifiers top (t ∷ ts) a rest) where
     alone_good : (w : Word) (t : Token) (ts : List Token) (o : Option ℕ) (a : Tree) (rest : List Token) → is_tag_word w ≡ true → t.kind ≡ kind.Word w
         → (tag_at ts).0 ≡ o → tag_alone t.line w o (tag_at ts).1 ≡ Some (a, rest) → Good names Specifiers top (t ∷ ts) a rest
     alone_good w t ts None a rest tag is o e = absurd cc
@@ -52,9 +52,9 @@ module _ (names : Names) (K : List Token → Type 0) (spelled : IsSpelled names 
     unfolding with_tag
     tagged_good w t ts a rest tag is known e =
         let x = tag_at ts in
-        elim (or_else_is (option_and_then (braced r t.line w x.0) (after is_open_brace x.1)) (tag_alone t.line w x.0 x.1) (a, rest) e) [
+        elim (or_else_is (option_and_then (behind_open_brace r t.line w x.0) (after is_open_brace x.1)) (tag_alone t.line w x.0 x.1) (a, rest) e) [
           | inl b ↦
-              let m = followed (braced r t.line w x.0) (after is_open_brace x.1) (a, rest) b in
+              let m = followed (behind_open_brace r t.line w x.0) (after is_open_brace x.1) (a, rest) b in
               let known' = known_behind names K spelled (kind.Mark mark.OpenBrace ∷ []) x.1 m.0 (open_brace_taken x.1 m.0 m.1) (known_behind names K spelled (tag_tokens x.0) ts x.1 (tag_taken ts) known) in
               braces w t ts m.0 a rest tag is known' m.1 m.2
           | inr b ↦ alone_good w t ts x.0 a rest tag is refl b
@@ -124,10 +124,10 @@ module _ (names : Names) (K : List Token → Type 0) (spelled : IsSpelled names 
 
     enumeration_good : (t : Token) (ts mid : List Token) (a : Tree) (rest : List Token) → t.kind ≡ kind.Word word.Enum → K mid
         → after is_open_brace (tag_at ts).1 ≡ Some mid
-        → listed_in_braces (λ enumerators comma. OfSpecifier (Enumeration t.line (tag_at ts).0 enumerators comma)) (listed (r Enumerators) mid) ≡ Some (a, rest)
+        → listed_in_braces (λ enumerators comma. OfSpecifier (Enumeration t.line (tag_at ts).0 enumerators comma)) (comma_list (r Enumerators) mid) ≡ Some (a, rest)
         → Good names Specifiers (suc depth) (t ∷ ts) a rest
     enumeration_good t ts mid a rest is known o e =
-        let x = listed (r Enumerators) mid in
+        let x = comma_list (r Enumerators) mid in
         let p = braced_is (λ enumerators comma. OfSpecifier (Enumeration t.line (tag_at ts).0 enumerators comma)) x a rest e in
         let b = listed_good names K spelled depth r s Enumerators mid known in
         let run = takes_listed x.0 p.comma mid x.1 rest b.1.takes p.takes in
@@ -140,9 +140,9 @@ module _ (names : Names) (K : List Token → Type 0) (spelled : IsSpelled names 
         })
 
     braced_good : (w : Word) (t : Token) (ts mid : List Token) (a : Tree) (rest : List Token) → is_tag_word w ≡ true → t.kind ≡ kind.Word w → K mid
-        → after is_open_brace (tag_at ts).1 ≡ Some mid → braced r t.line w (tag_at ts).0 mid ≡ Some (a, rest)
+        → after is_open_brace (tag_at ts).1 ≡ Some mid → behind_open_brace r t.line w (tag_at ts).0 mid ≡ Some (a, rest)
         → Good names Specifiers (suc depth) (t ∷ ts) a rest
-    unfolding braced
+    unfolding behind_open_brace
     braced_good word.Enum t ts mid a rest w is known o e = enumeration_good t ts mid a rest is known o e
     braced_good word.Struct t ts mid a rest w is known o e = composite_good word.Struct t ts mid a rest refl is known o e
     braced_good word.Union t ts mid a rest w is known o e = composite_good word.Union t ts mid a rest refl is known o e
@@ -162,10 +162,10 @@ module _ (names : Names) (K : List Token → Type 0) (spelled : IsSpelled names 
         })
 
     inits_good : (t : Token) (ts : List Token) (a : Tree) (rest : List Token) → K ts → t.kind ≡ kind.Mark mark.OpenBrace
-        → listed_in_braces (λ inits comma. OfInitializer (Braces t.line inits comma)) (listed (r Initializers) ts) ≡ Some (a, rest)
+        → listed_in_braces (λ inits comma. OfInitializer (Braces t.line inits comma)) (comma_list (r Initializers) ts) ≡ Some (a, rest)
         → Good names Initializers (suc depth) (t ∷ ts) a rest
     inits_good t ts a rest known o e =
-        let x = listed (r Initializers) ts in
+        let x = comma_list (r Initializers) ts in
         let p = braced_is (λ inits comma. OfInitializer (Braces t.line inits comma)) x a rest e in
         let b = listed_good names K spelled depth r s Initializers ts known in
         subst (λ (y : Tree). Good names Initializers (suc depth) (t ∷ ts) y rest) p.is (record {
@@ -185,7 +185,7 @@ module _ (names : Names) (K : List Token → Type 0) (spelled : IsSpelled names 
         (record { stand = refl; fits = (refl, g.tight, g.fits); shallow = omega (arith, g.shallow); spells = some_tokens m.0.0; takes = g.takes })
 
     initializer_by : (b : Bool) (t : Token) (ts : List Token) (a : Tree) (rest : List Token) → K (t ∷ ts) → is_open_brace t.kind ≡ b
-        → cond b (listed_in_braces (λ inits comma. OfInitializer (Braces t.line inits comma)) (listed (r Initializers) ts))
+        → cond b (listed_in_braces (λ inits comma. OfInitializer (Braces t.line inits comma)) (comma_list (r Initializers) ts))
         (option_map {U = Tree × List Token} (λ x. (OfInitializer (Initial t.line x.0), x.1)) (read names depth 2 (t ∷ ts))) ≡ Some (a, rest) → Good names Initializers (suc depth) (t ∷ ts) a rest
     initializer_by true t ts a rest known o e = inits_good t ts a rest (spelled.tail t ts known) (open_brace_is t.kind o) e
     initializer_by false t ts a rest known o e = initial_good t ts a rest known e
@@ -204,9 +204,9 @@ module _ (names : Names) (K : List Token → Type 0) (spelled : IsSpelled names 
         good_at names Constants (suc depth) ts (OfExpression m.0.0, m.0.1) a rest m.2
         (record { stand = le-leb 3 (rank m.0.0) g.tight; fits = g.fits; shallow = g.shallow; spells = some_tokens m.0.0; takes = g.takes })
 
-    made_good : (place : Place) (ts : List Token) (a : Tree) (rest : List Token) → K ts → made names r depth place ts ≡ Some (a, rest)
+    made_good : (place : Place) (ts : List Token) (a : Tree) (rest : List Token) → K ts → node_readers names r depth place ts ≡ Some (a, rest)
         → Good names place (suc depth) ts a rest
-    unfolding made
+    unfolding node_readers
     made_good Specifiers ts a rest known e = specifier_good (suc depth) r braced_good ts a rest known e
     made_good MemberDeclarators ts a rest known e = declarator_good names K spelled depth r s form.Named ts a rest known e
     made_good AbstractDeclarators ts a rest known e = declarator_good names K spelled depth r s form.Abstract ts a rest known e
@@ -217,8 +217,8 @@ module _ (names : Names) (K : List Token → Type 0) (spelled : IsSpelled names 
     made_good _ ts a rest known e = absurd (none-some (a, rest) e)
 
   -- without depth there are no braces
-  pub nothing_braced : (line : ℕ) (w : Word) (tag : Option ℕ) (ts : List Token) → braced nothing line w tag ts ≡ None
-  unfolding braced listed_in_braces row_in_braces listed
+  pub nothing_braced : (line : ℕ) (w : Word) (tag : Option ℕ) (ts : List Token) → behind_open_brace nothing line w tag ts ≡ None
+  unfolding behind_open_brace listed_in_braces row_in_braces comma_list
   nothing_braced line word.Enum tag ts = refl
   nothing_braced line _ tag ts = rw (row_quits (nothing Members) NoTrees ts refl) refl
 
@@ -232,13 +232,13 @@ module _ (names : Names) (K : List Token → Type 0) (spelled : IsSpelled names 
   pub leaves_sound : IsSound names K 0 (leaves names)
   leaves_sound = record { good = leaves_good }
 
-  made_by : (depth : ℕ) → IsSound names K depth (readers names depth) → IsSound names K (suc depth) (made names (readers names depth) depth)
+  made_by : (depth : ℕ) → IsSound names K depth (readers names depth) → IsSound names K (suc depth) (node_readers names (readers names depth) depth)
   made_by depth s = record { good = made_good depth (readers names depth) s }
 
   pub readers_sound : (depth : ℕ) → IsSound names K depth (readers names depth)
   unfolding readers
   readers_sound zero = parts_sound names K spelled 0 (leaves names) leaves_sound
-  readers_sound (suc depth) = parts_sound names K spelled (suc depth) (made names (readers names depth) depth) (made_by depth (readers_sound depth))
+  readers_sound (suc depth) = parts_sound names K spelled (suc depth) (node_readers names (readers names depth) depth) (made_by depth (readers_sound depth))
 
-  pub made_sound : (depth : ℕ) → IsSound names K (suc depth) (made names (readers names depth) depth)
+  pub made_sound : (depth : ℕ) → IsSound names K (suc depth) (node_readers names (readers names depth) depth)
   made_sound depth = made_by depth (readers_sound depth)

@@ -19,7 +19,7 @@ use Rattle.pv_expr_forms.proofs.Heads.{IsSpelled}
 use Rattle.pv_decl_forms.specs.declared.forms.Form.{Form}
 use Rattle.pv_decl_forms.specs.Pieces.{Reads, is_open_brace, row}
 use Rattle.pv_decl_forms.specs.Declarators.{place_of}
-use Rattle.pv_decl_forms.specs.Reader.{name_of, tag_in, tag_at, specified}
+use Rattle.pv_decl_forms.specs.Reader.{name_of, tag_in, tag_at, behind_specifiers}
 use Rattle.pv_decl_forms.proofs.Marks.{after_taken}
 use Rattle.pv_decl_forms.proofs.Goods.{known_behind, part_shortens}
 use Rattle.pv_decl_forms.proofs.Directs.{declarator_stands}
@@ -127,8 +127,8 @@ module _ (names : Names) (K : List Token → Type 0) (spelled : IsSpelled names 
         → RowFits names.is_type (Fits names) Specifiers specs here
         → OptionalFits names.is_type (Fits names) (place_of f) o (past (trees_tokens specs) here)
         → max (trees_depth specs) (optional_depth o) ≤ depth → Takes (trees_tokens specs ++ optional_tokens o) here rest → Closes rest
-        → specified make (r (place_of f)) (row (r Specifiers) NoTrees here) ≡ Some (OfDeclaration (make specs o), rest)
-    unfolding specified
+        → behind_specifiers make (r (place_of f)) (row (r Specifiers) NoTrees here) ≡ Some (OfDeclaration (make specs o), rest)
+    unfolding behind_specifiers
     specified_exact f make specs Absent here rest known has row fits deep h c =
         let p = takes_parts (trees_tokens specs) [] here rest h in
         let run : Takes (trees_tokens specs) here rest = rw p.2 at p.1 in

@@ -12,8 +12,8 @@ use Rattle.pv_tree.specs.Tables.{as_declarator}
 use Rattle.pv_tree.specs.Places.{Parameters, Constants, is_named, is_direct}
 use Rattle.pv_expr_forms.specs.Reader.{is_bracket, is_close, after}
 use Rattle.pv_expr_forms.proofs.Steps.{guarded, mapped}
-use Rattle.pv_decl_forms.specs.Pieces.{Piece, Reads, optional, row_on, row_for, row, listed}
-use Rattle.pv_decl_forms.specs.Declarators.{arrayed, functioned, bracketed, sized, variadic_at, closed, with_parameters, parametrized, tried, longer, carried, grown_for, grown}
+use Rattle.pv_decl_forms.specs.Pieces.{Piece, Reads, part_if_any, row_on, row_for, row, comma_list}
+use Rattle.pv_decl_forms.specs.Declarators.{array_tree, function_tree, behind_size, size_behind, variadic_at, behind_parameters, with_parameters, parameters_behind, declarator_on, longer_declarator, on_with, grown_for, longest_declarator}
 
 pub piece_is : (a b : Tree) (ts rest : List Token) → ◌≡◌ {A = Piece} (Some (a, ts)) (Some (b, rest)) → ◌≡◌ {A = Tree × List Token} (a, ts) (b, rest)
 piece_is a b ts rest e = cc
@@ -85,9 +85,9 @@ module _ (K : List Token → Type 0) (read : List Token → Piece) (Holds : Tree
 
 -- ---- what stands in brackets and in parentheses
 
-pub bracketed_is : (make : OptionalTree → Tree) (x : OptionalTree × List Token) (a : Tree) (rest : List Token) → bracketed make x ≡ Some (a, rest)
+pub bracketed_is : (make : OptionalTree → Tree) (x : OptionalTree × List Token) (a : Tree) (rest : List Token) → behind_size make x ≡ Some (a, rest)
     → (after is_bracket x.1 ≡ Some rest) × (make x.0 ≡ a)
-unfolding bracketed
+unfolding behind_size
 bracketed_is make x a rest e =
     let m = mapped (λ (y : List Token). let z : Tree × List Token = (make x.0, y) in z) (after is_bracket x.1) (a, rest) e in
     (m.1 ∙ ap (λ (y : Tree × List Token). Some y.1) m.2, ap (λ (y : Tree × List Token). y.0) m.2)
@@ -95,7 +95,7 @@ bracketed_is make x a rest e =
 pub with_parameters_is : (make : Trees → Bool → Tree) (x : Trees × List Token) (a : Tree) (rest : List Token)
     → with_parameters make x ≡ Some (a, rest)
     → (after is_close (variadic_at x.0 x.1).1 ≡ Some rest) × (make x.0 (variadic_at x.0 x.1).0 ≡ a)
-unfolding with_parameters closed
+unfolding with_parameters behind_parameters
 with_parameters_is make x a rest e =
     let v = variadic_at x.0 x.1 in
     let m = mapped (λ (y : List Token). let z : Tree × List Token = (make x.0 v.0, y) in z) (after is_close v.1) (a, rest) e in
@@ -107,33 +107,33 @@ abbrev pub deep_of : Tree → ℕ
 deep_of t = declarator_depth (as_declarator t)
 
 arrayed_by : (b : Bool) (line : ℕ) (d : DeclaratorTree) (size : OptionalTree) → is_named d ≡ b
-    → declarator_depth d < deep_of (arrayed line (OfDeclarator d) size)
+    → declarator_depth d < deep_of (array_tree line (OfDeclarator d) size)
 arrayed_by true line d size e = rw e (omega arith)
 arrayed_by false line d size e = rw e (omega arith)
 
-arrayed_deeper : (line : ℕ) (t : Tree) (size : OptionalTree) → deep_of t < deep_of (arrayed line t size)
+arrayed_deeper : (line : ℕ) (t : Tree) (size : OptionalTree) → deep_of t < deep_of (array_tree line t size)
 arrayed_deeper line (OfDeclarator d) size = arrayed_by (is_named d) line d size refl
 arrayed_deeper line _ size = omega arith
 
 functioned_by : (b : Bool) (line : ℕ) (d : DeclaratorTree) (parameters : Trees) (variadic : Bool) → is_named d ≡ b
-    → declarator_depth d < deep_of (functioned line (OfDeclarator d) parameters variadic)
+    → declarator_depth d < deep_of (function_tree line (OfDeclarator d) parameters variadic)
 functioned_by true line d parameters variadic e = rw e (omega arith)
 functioned_by false line d parameters variadic e = rw e (omega arith)
 
-functioned_deeper : (line : ℕ) (t : Tree) (parameters : Trees) (variadic : Bool) → deep_of t < deep_of (functioned line t parameters variadic)
+functioned_deeper : (line : ℕ) (t : Tree) (parameters : Trees) (variadic : Bool) → deep_of t < deep_of (function_tree line t parameters variadic)
 functioned_deeper line (OfDeclarator d) parameters variadic = functioned_by (is_named d) line d parameters variadic refl
 functioned_deeper line _ parameters variadic = omega arith
 
 tried_deeper : (below : Reads) (line : ℕ) (left : Tree) (k : TokenKind) (ts : List Token) (a : Tree) (rest : List Token)
-    → tried below line left k ts ≡ Some (a, rest)
+    → declarator_on below line left k ts ≡ Some (a, rest)
     → deep_of left < deep_of a
-unfolding tried sized parametrized
+unfolding declarator_on size_behind parameters_behind
 tried_deeper below line left (kind.Mark mark.OpenBracket) ts a rest e =
-    let x = optional ts (below Constants ts) in
-    omega (arith, arrayed_deeper line left x.0, ap deep_of (bracketed_is (arrayed line left) x a rest e).1)
+    let x = part_if_any ts (below Constants ts) in
+    omega (arith, arrayed_deeper line left x.0, ap deep_of (bracketed_is (array_tree line left) x a rest e).1)
 tried_deeper below line left (kind.Mark mark.OpenParen) ts a rest e =
-    let x = listed (below Parameters) ts in
-    omega (arith, functioned_deeper line left x.0 (variadic_at x.0 x.1).0, ap deep_of (with_parameters_is (functioned line left) x a rest e).1)
+    let x = comma_list (below Parameters) ts in
+    omega (arith, functioned_deeper line left x.0 (variadic_at x.0 x.1).0, ap deep_of (with_parameters_is (function_tree line left) x a rest e).1)
 tried_deeper below line left _ ts a rest e = absurd (none-some (a, rest) e)
 
 -- a goes on from left
@@ -142,20 +142,20 @@ pub record Goes (depth : ℕ) (left a : Tree) : Type 0 where
   pub was_shallow : deep_of left ≤ depth
 
 pub longer_goes : (below : Reads) (depth line : ℕ) (left : Tree) (ts : List Token) (a : Tree) (rest : List Token)
-    → longer below depth line left ts ≡ Some (a, rest) → Goes depth left a
-unfolding longer
+    → longer_declarator below depth line left ts ≡ Some (a, rest) → Goes depth left a
+unfolding longer_declarator
 longer_goes below depth line left [] a rest e = absurd cc
 longer_goes below depth line left (t ∷ ts) a rest e =
-    let g = guarded (is_direct (as_declarator left) && leb (deep_of left) depth) (tried below line left t.kind ts) (a, rest) e in
+    let g = guarded (is_direct (as_declarator left) && leb (deep_of left) depth) (declarator_on below line left t.kind ts) (a, rest) e in
     record { grows = tried_deeper below line left t.kind ts a rest g.1; was_shallow = leb-true (deep_of left) depth (and_parts (is_direct (as_declarator left)) (leb (deep_of left) depth) g.0).1 }
 
 carried_same : (f g : Tree → List Token → Tree × List Token) (left : Tree) (ts : List Token) (o : Piece)
-    → ((a : Tree) (rest : List Token) → o ≡ Some (a, rest) → f a rest ≡ g a rest) → carried f left ts o ≡ carried g left ts o
+    → ((a : Tree) (rest : List Token) → o ≡ Some (a, rest) → f a rest ≡ g a rest) → on_with f left ts o ≡ on_with g left ts o
 carried_same f g left ts None h = refl
 carried_same f g left ts (Some x) h = h x.0 x.1 refl
 
 carried_stop : (f : Tree → List Token → Tree × List Token) (left : Tree) (ts : List Token) (o : Piece)
-    → ((a : Tree) (rest : List Token) → o ≡ Some (a, rest) → ⊥) → carried f left ts o ≡ (left, ts)
+    → ((a : Tree) (rest : List Token) → o ≡ Some (a, rest) → ⊥) → on_with f left ts o ≡ (left, ts)
 carried_stop f left ts None h = refl
 carried_stop f left ts (Some x) h = absurd (h x.0 x.1 refl)
 
@@ -166,24 +166,24 @@ module _ (below : Reads) (depth line : ℕ) where
   unfolding grown_for
   grown_enough zero zero left ts p q = refl
   grown_enough zero (suc h) left ts p q =
-      sym (carried_stop (grown_for h below depth line) left ts (longer below depth line left ts) (λ a rest e. let k = longer_goes below depth line left ts a rest e in omega (arith, k.was_shallow)))
+      sym (carried_stop (grown_for h below depth line) left ts (longer_declarator below depth line left ts) (λ a rest e. let k = longer_goes below depth line left ts a rest e in omega (arith, k.was_shallow)))
   grown_enough (suc g) zero left ts p q =
-      carried_stop (grown_for g below depth line) left ts (longer below depth line left ts) (λ a rest e. let k = longer_goes below depth line left ts a rest e in omega (arith, k.was_shallow))
+      carried_stop (grown_for g below depth line) left ts (longer_declarator below depth line left ts) (λ a rest e. let k = longer_goes below depth line left ts a rest e in omega (arith, k.was_shallow))
   grown_enough (suc g) (suc h) left ts p q =
-      carried_same (grown_for g below depth line) (grown_for h below depth line) left ts (longer below depth line left ts)
+      carried_same (grown_for g below depth line) (grown_for h below depth line) left ts (longer_declarator below depth line left ts)
       (λ a rest e. let k = longer_goes below depth line left ts a rest e in grown_enough g h a rest (omega (arith, k.grows)) (omega (arith, k.grows)))
 
   -- one step, and the rest of them
   pub grown_step : (left : Tree) (ts : List Token)
-      → grown below depth line left ts ≡ carried (grown below depth line) left ts (longer below depth line left ts)
-  unfolding grown grown_for
+      → longest_declarator below depth line left ts ≡ on_with (longest_declarator below depth line) left ts (longer_declarator below depth line left ts)
+  unfolding longest_declarator grown_for
   grown_step left ts =
-      carried_same (grown_for depth below depth line) (grown_for (suc depth) below depth line) left ts (longer below depth line left ts)
+      carried_same (grown_for depth below depth line) (grown_for (suc depth) below depth line) left ts (longer_declarator below depth line left ts)
       (λ a rest e. let k = longer_goes below depth line left ts a rest e in grown_enough depth (suc depth) a rest (omega (arith, k.grows)) (omega (arith, k.grows)))
 
-  pub grown_next : (left : Tree) (ts : List Token) (a : Tree) (rest : List Token) → longer below depth line left ts ≡ Some (a, rest)
-      → grown below depth line left ts ≡ grown below depth line a rest
-  grown_next left ts a rest e = grown_step left ts ∙ ap (carried (grown below depth line) left ts) e
+  pub grown_next : (left : Tree) (ts : List Token) (a : Tree) (rest : List Token) → longer_declarator below depth line left ts ≡ Some (a, rest)
+      → longest_declarator below depth line left ts ≡ longest_declarator below depth line a rest
+  grown_next left ts a rest e = grown_step left ts ∙ ap (on_with (longest_declarator below depth line) left ts) e
 
-  pub grown_stop : (left : Tree) (ts : List Token) → longer below depth line left ts ≡ None → grown below depth line left ts ≡ (left, ts)
-  grown_stop left ts e = grown_step left ts ∙ ap (carried (grown below depth line) left ts) e
+  pub grown_stop : (left : Tree) (ts : List Token) → longer_declarator below depth line left ts ≡ None → longest_declarator below depth line left ts ≡ (left, ts)
+  grown_stop left ts e = grown_step left ts ∙ ap (on_with (longest_declarator below depth line) left ts) e

@@ -10,12 +10,12 @@ use Rattle.pv_token.specs.declared.marks.Mark.TheVariants as mark
 use Rattle.pv_tree.specs.Syntax.{TypedefName, Tree, OfSpecifier, Trees, NoTrees}
 use Rattle.pv_tree.specs.Spells.{Names, begins_specifiers, kind_begins_type, begins_type}
 use Rattle.pv_tree.specs.Places.{Place, Specifiers, InitDeclarators, Members, MemberDeclarators, Enumerators, Parameters, Initializers, Constants, AbstractDeclarators, ParameterDeclarators, is_plain_word, is_tag_word}
-use Rattle.pv_expr_forms.specs.Reader.{Reads as Expressing, head_of as begun_of, head as begun, deeper, fronted, read}
+use Rattle.pv_expr_forms.specs.Reader.{Reads as Expressing, head_of as begun_of, head as begun, deeper, prefix_behind, read}
 use Rattle.pv_expr_forms.proofs.Ends.{goes_level, Stops as Ends}
 use Rattle.pv_decl_forms.specs.declared.forms.Form.{Form}
 use Rattle.pv_decl_forms.specs.Pieces.{Piece, Reads, is_open_brace, row_on, row_for, row}
-use Rattle.pv_decl_forms.specs.Declarators.{head_of, head, tried, longer, declarator}
-use Rattle.pv_decl_forms.specs.Reader.{name_of, specifier_of, specifier, specified, parameter, member_with, member, enumerator_of, enumerator, initializer, init_declarator, made, nothing, leaves, with_parts, readers}
+use Rattle.pv_decl_forms.specs.Declarators.{head_of, head, declarator_on, longer_declarator, declarator}
+use Rattle.pv_decl_forms.specs.Reader.{name_of, specifier_of, specifier, behind_specifiers, parameter, member_with, member, enumerator_of, enumerator, initializer, init_declarator, node_readers, nothing, leaves, with_parts, readers}
 
 -- ---- tokens that close, or that stand between parts
 
@@ -137,7 +137,7 @@ shuts_no_type names (t ∷ ts) s = shut_no_type names t.kind s
 
 begun_shut : (names : Names) (r : Expressing) (below line : ℕ) (k : TokenKind) (ts : List Token) → shuts k ≡ true
     → begun_of names r below line k ts ≡ None
-unfolding begun_of fronted
+unfolding begun_of prefix_behind
 begun_shut names r below line (kind.Mark mark.Comma) ts e = refl
 begun_shut names r below line (kind.Mark mark.CloseParen) ts e = refl
 begun_shut names r below line (kind.Mark mark.CloseBracket) ts e = refl
@@ -155,7 +155,7 @@ read_shut names (suc depth) level (t ∷ ts) s = rw (begun_shut names (read name
 
 begun_brace : (names : Names) (r : Expressing) (below line : ℕ) (k : TokenKind) (ts : List Token) → is_open_brace k ≡ true
     → begun_of names r below line k ts ≡ None
-unfolding begun_of fronted
+unfolding begun_of prefix_behind
 begun_brace names r below line (kind.Mark mark.OpenBrace) ts e = refl
 begun_brace names r below line _ ts e = absurd (false≢true e)
 
@@ -197,13 +197,13 @@ specifier_none names below [] e = refl
 specifier_none names below (t ∷ ts) e = specifier_of_none names below t.line t.kind ts e
 
 pub specifiers_none : (names : Names) (depth : ℕ) (ts : List Token) → begins_type names ts ≡ false → readers names depth Specifiers ts ≡ None
-unfolding readers with_parts made leaves
+unfolding readers with_parts node_readers leaves
 specifiers_none names zero ts e = specifier_none names nothing ts e
 specifiers_none names (suc depth) ts e = specifier_none names (readers names depth) ts e
 
 pub made_none : (names : Names) (depth : ℕ) (ts : List Token) → begins_type names ts ≡ false
-    → made names (readers names depth) depth Specifiers ts ≡ None
-unfolding made
+    → node_readers names (readers names depth) depth Specifiers ts ≡ None
+unfolding node_readers
 made_none names depth ts e = specifier_none names (readers names depth) ts e
 
 pub leaves_none : (names : Names) (ts : List Token) → begins_type names ts ≡ false → leaves names Specifiers ts ≡ None
@@ -231,7 +231,7 @@ row_quits read before [] e = refl
 row_quits read before (t ∷ ts) e = ap (row_on (row_for (length ts) read) before (t ∷ ts)) e
 
 parameter_shut : (below : Reads) (ts : List Token) → below Specifiers ts ≡ None → parameter below ts ≡ None
-unfolding parameter specified
+unfolding parameter behind_specifiers
 parameter_shut below ts e = rw (row_quits (below Specifiers) NoTrees ts e) refl
 
 member_shut : (reads : Reads) (ts : List Token) → reads Specifiers ts ≡ None → member reads ts ≡ None
@@ -262,8 +262,8 @@ init_declarator_shut reads ts e = rw e refl
 
 made_shut : (names : Names) (below : Reads) (depth : ℕ) → ((ts : List Token) → Shuts ts → below Specifiers ts ≡ None)
     → (place : Place) (ts : List Token) → Shuts ts
-    → made names below depth place ts ≡ None
-unfolding made
+    → node_readers names below depth place ts ≡ None
+unfolding node_readers
 made_shut names below depth none Specifiers ts s = specifier_none names below ts (shuts_no_type names ts s)
 made_shut names below depth none MemberDeclarators ts s = declarator_shut names below depth _ ts s
 made_shut names below depth none AbstractDeclarators ts s = declarator_shut names below depth _ ts s
@@ -282,7 +282,7 @@ parts_shut names reads none Members ts s = member_shut reads ts (none Specifiers
 parts_shut names reads none Enumerators ts s = enumerator_shut names reads ts s
 parts_shut names reads none place ts s = none place ts s
 
-pub none_made : (names : Names) (depth : ℕ) (place : Place) (ts : List Token) → Shuts ts → made names (readers names depth) depth place ts ≡ None
+pub none_made : (names : Names) (depth : ℕ) (place : Place) (ts : List Token) → Shuts ts → node_readers names (readers names depth) depth place ts ≡ None
 none_made names depth place ts s = made_shut names (readers names depth) depth (λ here k. specifiers_none names depth here (shuts_no_type names here k)) place ts s
 
 pub leaves_shut : (names : Names) (place : Place) (ts : List Token) → Shuts ts → leaves names place ts ≡ None
@@ -294,12 +294,12 @@ leaves_shut names _ ts s = refl
 pub readers_shut : (names : Names) (depth : ℕ) (place : Place) (ts : List Token) → Shuts ts → readers names depth place ts ≡ None
 unfolding readers
 readers_shut names zero place ts s = parts_shut names (leaves names) (leaves_shut names) place ts s
-readers_shut names (suc depth) place ts s = parts_shut names (made names (readers names depth) depth) (none_made names depth) place ts s
+readers_shut names (suc depth) place ts s = parts_shut names (node_readers names (readers names depth) depth) (none_made names depth) place ts s
 
 -- ---- where a declarator goes on no further
 
-tried_stops : (below : Reads) (line : ℕ) (left : Tree) (k : TokenKind) (ts : List Token) → ends_named k ≡ true → tried below line left k ts ≡ None
-unfolding tried
+tried_stops : (below : Reads) (line : ℕ) (left : Tree) (k : TokenKind) (ts : List Token) → ends_named k ≡ true → declarator_on below line left k ts ≡ None
+unfolding declarator_on
 tried_stops below line left (kind.Mark mark.OpenBracket) ts e = absurd (false≢true e)
 tried_stops below line left (kind.Mark mark.OpenParen) ts e = absurd (false≢true e)
 tried_stops below line left _ ts e = refl
@@ -309,7 +309,7 @@ either_none true = refl
 either_none false = refl
 
 pub longer_stops : (below : Reads) (depth line : ℕ) (left : Tree) (ts : List Token) → Stops MemberDeclarators ts
-    → longer below depth line left ts ≡ None
-unfolding longer
+    → longer_declarator below depth line left ts ≡ None
+unfolding longer_declarator
 longer_stops below depth line left [] s = refl
 longer_stops below depth line left (t ∷ ts) s = rw (tried_stops below line left t.kind ts s) (either_none _)

@@ -15,7 +15,7 @@ use Rattle.pv_expr_forms.proofs.Runs.{Takes, takes_parts}
 use Rattle.pv_expr_forms.proofs.Heads.{IsSpelled}
 use Rattle.pv_decl_forms.specs.declared.forms.Form.{Form}
 use Rattle.pv_decl_forms.specs.Pieces.{Piece, Reads}
-use Rattle.pv_decl_forms.specs.Declarators.{place_of, allows_abstract, pointing, pointed, head, longer, declarator}
+use Rattle.pv_decl_forms.specs.Declarators.{place_of, allows_abstract, pointing, pointer_tree, head, longer_declarator, declarator}
 use Rattle.pv_decl_forms.proofs.Steps.{grown_stop}
 use Rattle.pv_decl_forms.proofs.Goods.{known_behind}
 use Rattle.pv_decl_forms.proofs.Directs.{abstract_unnamed, stand_like}
@@ -25,8 +25,8 @@ use Rattle.pv_decl_forms.proofs.Wholes.{IsExact, of_parts, exact_as, name_allowe
 
 -- nothing goes on behind a pointer
 pub longer_pointer : (r : Reads) (depth line : ℕ) (d : DeclaratorTree) (ts : List Token) → is_direct d ≡ false
-    → longer r depth line (OfDeclarator d) ts ≡ None
-unfolding longer
+    → longer_declarator r depth line (OfDeclarator d) ts ≡ None
+unfolding longer_declarator
 longer_pointer r depth line d [] e = refl
 longer_pointer r depth line d (t ∷ ts) e = rw e refl
 
@@ -90,12 +90,12 @@ module _ (names : Names) (K : List Token → Type 0) (spelled : IsSpelled names 
       → Takes (kind.Mark mark.Star ∷ const_tokens consts) here mid → DeclaratorFits names.is_type (Fits names) d mid → (end : List Token)
       → Takes (declarator_tokens d) mid end
       → r (place_of f) mid ≡ Some (OfDeclarator d, rest) → head names r f here ≡ Some (OfDeclarator (make line), rest)
-  unfolding pointed
+  unfolding pointer_tree
   head_pointing make line consts d [] rest mid e is h fits end run read = absurd h
   head_pointing make line consts d (t ∷ ts) rest mid e is h fits end run read =
       on_line (λ l. OfDeclarator (make l)) line t.line rest (head names r f (t ∷ ts)) e
       (head_star names K spelled depth r x f t ts consts mid h.0 h.1 (opening names d mid end fits run).no_consts
-      ∙ ap (pointed f t.line consts mid) read ∙ ap (λ (y : Tree). let z : Piece = Some (y, rest) in z) (is t.line))
+      ∙ ap (pointer_tree f t.line consts mid) read ∙ ap (λ (y : Tree). let z : Piece = Some (y, rest) in z) (is t.line))
 
   -- the parts of a pointer
   pub star_parts : (consts : ℕ) (d : DeclaratorTree) (here rest : List Token) → K here
@@ -123,7 +123,7 @@ module _ (names : Names) (K : List Token → Type 0) (spelled : IsSpelled names 
   alone_exact : (line consts : ℕ) (here rest : List Token) → line ≡ line_here here → allows_abstract f ≡ true
       → Takes (kind.Mark mark.Star ∷ (const_tokens consts ++ [])) here rest
       → Stops (place_of f) rest → declarator names r depth f here ≡ Some (OfDeclarator (AbstractPointer line consts Absent), rest)
-  unfolding pointed
+  unfolding pointer_tree
   alone_exact line consts [] rest e may h stop = absurd h
   alone_exact line consts (t ∷ ts) rest e may h stop =
       let p = takes_parts (const_tokens consts) [] ts rest h.1 in

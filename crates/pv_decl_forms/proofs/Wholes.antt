@@ -19,7 +19,7 @@ use Rattle.pv_expr_forms.proofs.Heads.{IsSpelled}
 use Rattle.pv_decl_forms.specs.declared.forms.Form.{Form}
 use Rattle.pv_decl_forms.specs.declared.forms.Form.TheVariants as form
 use Rattle.pv_decl_forms.specs.Pieces.{Piece, Reads, is_const}
-use Rattle.pv_decl_forms.specs.Declarators.{place_of, allows_name, allows_abstract, parenthesized, arrayed, functioned, consts_in_row, pointed, pointer, in_parentheses, opened, head_of, head, tried, longer, grown, declarator}
+use Rattle.pv_decl_forms.specs.Declarators.{place_of, allows_name, allows_abstract, paren_tree, array_tree, function_tree, consts_in_row, pointer_tree, pointer, in_parentheses, behind_paren, head_of, head, declarator_on, longer_declarator, longest_declarator, declarator}
 use Rattle.pv_decl_forms.proofs.Marks.{after_taken, length_consts}
 use Rattle.pv_decl_forms.proofs.Steps.{grown_next}
 use Rattle.pv_decl_forms.proofs.Goods.{IsSound, known_behind, comma_shortens}
@@ -124,8 +124,8 @@ module _ (names : Names) (K : List Token → Type 0) (spelled : IsSpelled names 
       → stands (place_of f) (OfDeclarator d) ≡ true
       → DeclaratorFits names.is_type (Fits names) d ts → declarator_depth d ≤ depth
       → Takes (declarator_tokens d ++ kind.Mark mark.CloseParen ∷ []) ts rest
-      → head names r f (t ∷ ts) ≡ Some (parenthesized t.line (OfDeclarator d), rest)
-  unfolding head_of opened in_parentheses
+      → head names r f (t ∷ ts) ≡ Some (paren_tree t.line (OfDeclarator d), rest)
+  unfolding head_of behind_paren in_parentheses
   head_paren t ts d rest known k s fits deep h =
       let p = parts_at (declarator_tokens d) (kind.Mark mark.CloseParen) [] ts rest h in
       let o = opening names d ts (p.token ∷ p.after) fits p.left in
@@ -139,7 +139,7 @@ module _ (names : Names) (K : List Token → Type 0) (spelled : IsSpelled names 
       → may_be_variadic parameters variadic ≡ true → ListFits names.is_type (Fits names) Parameters parameters ts → trees_depth parameters ≤ depth
       → Takes ((listed_tokens parameters ++ variadic_tokens variadic) ++ kind.Mark mark.CloseParen ∷ []) ts rest
       → head names r f (t ∷ ts) ≡ Some (OfDeclarator (AbstractFunction t.line Absent parameters variadic), rest)
-  unfolding head_of opened
+  unfolding head_of behind_paren
   head_parameters t ts parameters variadic rest known k may vary fits deep h =
       let opens = first_parameters names parameters variadic ts rest fits vary h in
       head_as t ts (kind.Mark mark.OpenParen) k
@@ -159,13 +159,13 @@ module _ (names : Names) (K : List Token → Type 0) (spelled : IsSpelled names 
   -- behind a star and words `const`
   pub head_star : (t : Token) (ts : List Token) (consts : ℕ) (mid : List Token) → t.kind ≡ kind.Mark mark.Star → Takes (const_tokens consts) ts mid
       → consts_in_row mid ≡ 0
-      → head names r f (t ∷ ts) ≡ pointed f t.line consts mid (r (place_of f) mid)
+      → head names r f (t ∷ ts) ≡ pointer_tree f t.line consts mid (r (place_of f) mid)
   unfolding head_of pointer
   head_star t ts consts mid k h none =
       head_as t ts (kind.Mark mark.Star) k ∙ rw (consts_exact consts ts mid h none, consts_left consts ts mid h) refl
 
   pub read_head : (here : List Token) (a : Tree) (rest : List Token) → head names r f here ≡ Some (a, rest)
-      → declarator names r depth f here ≡ Some (grown r depth (line_here here) a rest)
+      → declarator names r depth f here ≡ Some (longest_declarator r depth (line_here here) a rest)
   unfolding declarator
   read_head here a rest e = rw e refl
 
@@ -173,53 +173,53 @@ module _ (names : Names) (K : List Token → Type 0) (spelled : IsSpelled names 
 
   longer_as : (line : ℕ) (d : DeclaratorTree) (t : Token) (ts : List Token) (k : TokenKind) (a : Tree) (rest : List Token) → is_direct d ≡ true
       → declarator_depth d ≤ depth
-      → t.kind ≡ k → tried r line (OfDeclarator d) k ts ≡ Some (a, rest) → longer r depth line (OfDeclarator d) (t ∷ ts) ≡ Some (a, rest)
-  unfolding longer
+      → t.kind ≡ k → declarator_on r line (OfDeclarator d) k ts ≡ Some (a, rest) → longer_declarator r depth line (OfDeclarator d) (t ∷ ts) ≡ Some (a, rest)
+  unfolding longer_declarator
   longer_as line d t ts k a rest direct low e s =
-      rw (direct, le-leb (declarator_depth d) depth low) (ap (λ (y : TokenKind). tried r line (OfDeclarator d) y ts) e ∙ s)
+      rw (direct, le-leb (declarator_depth d) depth low) (ap (λ (y : TokenKind). declarator_on r line (OfDeclarator d) y ts) e ∙ s)
 
   -- reading comes to a declarator, and goes on from there
   abbrev pub IsWhole : DeclaratorTree → (here rest : List Token) → Type 0
-  IsWhole d here rest = declarator names r depth f here ≡ Some (grown r depth (line_here here) (OfDeclarator d) rest)
+  IsWhole d here rest = declarator names r depth f here ≡ Some (longest_declarator r depth (line_here here) (OfDeclarator d) rest)
 
   goes_on : (d : DeclaratorTree) (here mid : List Token) (a : Tree) (rest : List Token) → IsWhole d here mid
-      → longer r depth (line_here here) (OfDeclarator d) mid ≡ Some (a, rest)
-      → declarator names r depth f here ≡ Some (grown r depth (line_here here) a rest)
+      → longer_declarator r depth (line_here here) (OfDeclarator d) mid ≡ Some (a, rest)
+      → declarator names r depth f here ≡ Some (longest_declarator r depth (line_here here) a rest)
   goes_on d here mid a rest w e =
       w ∙ ap (λ (y : Tree × List Token). let z : Piece = Some y in z) (grown_next r depth (line_here here) (OfDeclarator d) mid a rest e)
 
   module _ (d : DeclaratorTree) (here : List Token) (known : K here) (direct : is_direct d ≡ true) (low : declarator_depth d ≤ depth)
       (w : (mid : List Token) → Takes (declarator_tokens d) here mid → IsWhole d here mid) where
-    pub whole_array : (size : OptionalTree) (a : DeclaratorTree) (rest : List Token) → arrayed (line_here here) (OfDeclarator d) size ≡ OfDeclarator a
+    pub whole_array : (size : OptionalTree) (a : DeclaratorTree) (rest : List Token) → array_tree (line_here here) (OfDeclarator d) size ≡ OfDeclarator a
         → OptionalFits names.is_type (Fits names) Constants size (drop 1 (past (declarator_tokens d) here)) → optional_depth size ≤ depth
         → Takes (declarator_tokens d ++ (kind.Mark mark.OpenBracket ∷ (optional_tokens size ++ kind.Mark mark.CloseBracket ∷ []))) here rest
         → IsWhole a here rest
-    unfolding tried
+    unfolding declarator_on
     whole_array size a rest is fits deep h =
         let p = parts_at (declarator_tokens d) (kind.Mark mark.OpenBracket) (optional_tokens size ++ kind.Mark mark.CloseBracket ∷ []) here rest h in
         let behind : drop 1 (past (declarator_tokens d) here) ≡ p.after = ap (drop 1) (takes_rest (declarator_tokens d) here (p.token ∷ p.after) p.left) in
         let known' = spelled.tail p.token p.after (known_behind names K spelled (declarator_tokens d) here (p.token ∷ p.after) p.left known) in
-        let e = sized_exact names K spelled depth r (x.exact Constants refl) (x.shut Constants) (arrayed (line_here here) (OfDeclarator d)) size p.after rest known'
+        let e = sized_exact names K spelled depth r (x.exact Constants refl) (x.shut Constants) (array_tree (line_here here) (OfDeclarator d)) size p.after rest known'
         (subst (λ (y : List Token). OptionalFits names.is_type (Fits names) Constants size y) behind fits) deep p.right in
-        let l = longer_as (line_here here) d p.token p.after (kind.Mark mark.OpenBracket) (arrayed (line_here here) (OfDeclarator d) size) rest direct low p.kind e in
-        goes_on d here (p.token ∷ p.after) (OfDeclarator a) rest (w (p.token ∷ p.after) p.left) (subst (λ (y : Tree). longer r depth (line_here here) (OfDeclarator d) (p.token ∷ p.after) ≡ Some (y, rest)) is l)
+        let l = longer_as (line_here here) d p.token p.after (kind.Mark mark.OpenBracket) (array_tree (line_here here) (OfDeclarator d) size) rest direct low p.kind e in
+        goes_on d here (p.token ∷ p.after) (OfDeclarator a) rest (w (p.token ∷ p.after) p.left) (subst (λ (y : Tree). longer_declarator r depth (line_here here) (OfDeclarator d) (p.token ∷ p.after) ≡ Some (y, rest)) is l)
 
     pub whole_function : (parameters : Trees) (variadic : Bool) (a : DeclaratorTree) (rest : List Token)
-        → functioned (line_here here) (OfDeclarator d) parameters variadic ≡ OfDeclarator a
+        → function_tree (line_here here) (OfDeclarator d) parameters variadic ≡ OfDeclarator a
         → may_be_variadic parameters variadic ≡ true
         → ListFits names.is_type (Fits names) Parameters parameters (drop 1 (past (declarator_tokens d) here)) → trees_depth parameters ≤ depth
         → Takes (declarator_tokens d ++ (kind.Mark mark.OpenParen ∷ ((listed_tokens parameters ++ variadic_tokens variadic) ++ kind.Mark mark.CloseParen ∷ []))) here rest
         → IsWhole a here rest
-    unfolding tried
+    unfolding declarator_on
     whole_function parameters variadic a rest is vary fits deep h =
         let p = parts_at (declarator_tokens d) (kind.Mark mark.OpenParen) ((listed_tokens parameters ++ variadic_tokens variadic) ++ kind.Mark mark.CloseParen ∷ []) here rest h in
         let behind : drop 1 (past (declarator_tokens d) here) ≡ p.after = ap (drop 1) (takes_rest (declarator_tokens d) here (p.token ∷ p.after) p.left) in
         let known' = spelled.tail p.token p.after (known_behind names K spelled (declarator_tokens d) here (p.token ∷ p.after) p.left known) in
         let e = parametrized_exact names K spelled depth r (x.exact Parameters refl) (x.shut Parameters) (comma_shortens names K spelled depth r x.sound Parameters)
-        (functioned (line_here here) (OfDeclarator d)) parameters variadic p.after rest known' vary
+        (function_tree (line_here here) (OfDeclarator d)) parameters variadic p.after rest known' vary
         (subst (λ (y : List Token). ListFits names.is_type (Fits names) Parameters parameters y) behind fits) deep p.right in
-        let l = longer_as (line_here here) d p.token p.after (kind.Mark mark.OpenParen) (functioned (line_here here) (OfDeclarator d) parameters variadic) rest direct low p.kind e in
-        goes_on d here (p.token ∷ p.after) (OfDeclarator a) rest (w (p.token ∷ p.after) p.left) (subst (λ (y : Tree). longer r depth (line_here here) (OfDeclarator d) (p.token ∷ p.after) ≡ Some (y, rest)) is l)
+        let l = longer_as (line_here here) d p.token p.after (kind.Mark mark.OpenParen) (function_tree (line_here here) (OfDeclarator d) parameters variadic) rest direct low p.kind e in
+        goes_on d here (p.token ∷ p.after) (OfDeclarator a) rest (w (p.token ∷ p.after) p.left) (subst (λ (y : Tree). longer_declarator r depth (line_here here) (OfDeclarator d) (p.token ∷ p.after) ≡ Some (y, rest)) is l)
 
   -- ---- forms that begin
 
@@ -235,7 +235,7 @@ module _ (names : Names) (K : List Token → Type 0) (spelled : IsSpelled names 
   -- a declarator in parentheses
   pub whole_paren : (make : ℕ → DeclaratorTree) (line : ℕ) (d : DeclaratorTree) (here rest : List Token) → K here → line ≡ line_here here
       → stands (place_of f) (OfDeclarator d) ≡ true
-      → ((l : ℕ) → parenthesized l (OfDeclarator d) ≡ OfDeclarator (make l)) → DeclaratorFits names.is_type (Fits names) d (drop 1 here)
+      → ((l : ℕ) → paren_tree l (OfDeclarator d) ≡ OfDeclarator (make l)) → DeclaratorFits names.is_type (Fits names) d (drop 1 here)
       → declarator_depth d ≤ depth
       → Takes (kind.Mark mark.OpenParen ∷ (declarator_tokens d ++ kind.Mark mark.CloseParen ∷ [])) here rest → IsWhole (make line) here rest
   whole_paren make line d [] rest known e s is fits deep h = absurd h

@@ -7,9 +7,9 @@ use Rattle.pv_tree.specs.Tables.{Forest, Tables, tree_at, Is}
 use Rattle.pv_decl_forms.specs.Pieces.{Piece}
 
 -- a node's number and a place, as a tree (6.7) and the tokens from there
-abbrev pub seen : Forest → List Token → Option (NodeId × ℕ) → Piece
-seen f tokens None = None
-seen f tokens (Some x) = Some (tree_at f x.0, drop x.1 tokens)
+abbrev pub piece_from : Forest → List Token → Option (NodeId × ℕ) → Piece
+piece_from f tokens None = None
+piece_from f tokens (Some x) = Some (tree_at f x.0, drop x.1 tokens)
 
 -- what is answered is a node of its kind, and a place among the tokens
 abbrev pub IsThere : Tables → (kind : Tree → Bool) → List Token → Option (NodeId × ℕ) → Type 0
@@ -18,7 +18,7 @@ IsThere u kind tokens (Some x) = Is u kind x.0 × (x.1 ≤ length tokens)
 
 -- what the code answers is what reading on lists gives
 pub record Answers (u : Tables) (kind : Tree → Bool) (tokens : List Token) (answer : Option (NodeId × ℕ)) (reading : Piece) : Type 0 where
-  pub is : seen u.forest tokens answer ≡ reading
+  pub is : piece_from u.forest tokens answer ≡ reading
   pub there : IsThere u kind tokens answer
 
 -- the same of what reading gives from a place on, unless memory is wanting

@@ -10,14 +10,14 @@ use Rattle.pv_tree.specs.TypeNames.{TypeMap, AreTied}
 use Rattle.pv_tree.specs.Units.{depth_limit}
 use Rattle.pv_expr_forms.specs.Known.{names_in}
 use Rattle.pv_decl_forms.specs.Answers.{Answers}
-use Rattle.pv_decl_forms.specs.Declarators.{parametrized}
+use Rattle.pv_decl_forms.specs.Declarators.{parameters_behind}
 use Rattle.pv_decl_forms.specs.Parts.{function_of}
 use Rattle.pv_decl_forms.specs.Pieces.{Piece}
 use Rattle.pv_decl_forms.specs.Reader.{readers}
 
 -- a list of parameters from behind its `(` on, as an abstract declarator (6.7.6.3)
 abbrev pub parameter_list : Names → (depth : ℕ) → List Token → Piece
-parameter_list names depth ts = parametrized (function_of 0 Absent) (readers names depth) ts
+parameter_list names depth ts = parameters_behind (function_of 0 Absent) (readers names depth) ts
 
 -- the type names are tied to a unit, and each list that is known, or that there is none, is what reading gives
 pub record AreGiven {S : Type 0} (lists : ℕ → Option (Option (NodeId × ℕ))) (typedefs : IndexSet ℕ S) (types : TypeMap) (u : Tables) (tokens : List Token) : Type 0 where

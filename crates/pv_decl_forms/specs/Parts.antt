@@ -25,7 +25,7 @@ use Rattle.pv_decl_forms.specs.declared.forms.TagWord.TheVariants as tag_word
 use Rattle.pv_decl_forms.specs.declared.forms.Sign.{Sign}
 use Rattle.pv_decl_forms.specs.declared.forms.Sign.TheVariants as sign
 use Rattle.pv_decl_forms.specs.Pieces.{Piece, Reads, is_const, is_semicolon, is_equals, is_ellipsis, is_open_brace, is_close_brace}
-use Rattle.pv_decl_forms.specs.Declarators.{place_of, allows_name, arrayed, functioned}
+use Rattle.pv_decl_forms.specs.Declarators.{place_of, allows_name, array_tree, function_tree}
 use Rattle.pv_decl_forms.specs.Reader.{readers}
 
 -- a mark that a part ends with or goes on with
@@ -127,15 +127,15 @@ within names (suc depth) place ts = readers names depth place ts
 -- 6.7.6p1, 6.7.7p1: brackets behind a declarator
 abbrev pub array_of : (line : ℕ) → OptionalTree → OptionalTree → Tree
 array_of line Absent size = OfDeclarator (AbstractArray line Absent size)
-array_of line (Present t) size = arrayed line t size
+array_of line (Present t) size = array_tree line t size
 
 -- 6.7.6p1, 6.7.7p1: parameters behind a declarator
 abbrev pub function_of : (line : ℕ) → OptionalTree → Trees → Bool → Tree
 function_of line Absent parameters variadic = OfDeclarator (AbstractFunction line Absent parameters variadic)
-function_of line (Present t) parameters variadic = functioned line t parameters variadic
+function_of line (Present t) parameters variadic = function_tree line t parameters variadic
 
 -- ---- initializers
 
 -- an assignment expression (6.7.9p1)
-unfoldable pub assigned : Names → (depth : ℕ) → List Token → Piece
-assigned names depth ts = option_map (λ x. (OfExpression x.0, x.1)) (read names depth 2 ts)
+unfoldable pub assignment_expression : Names → (depth : ℕ) → List Token → Piece
+assignment_expression names depth ts = option_map (λ x. (OfExpression x.0, x.1)) (read names depth 2 ts)

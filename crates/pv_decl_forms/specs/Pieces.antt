@@ -57,13 +57,13 @@ found_in (Some rest) ts = (true, rest)
 -- ---- parts that may be left out: what can't be read is
 
 -- a part that may be left out: what can't be read is
-abbrev pub optional : List Token → Piece → OptionalTree × List Token
-optional ts None = (Absent, ts)
-optional ts (Some x) = (Present x.0, x.1)
+abbrev pub part_if_any : List Token → Piece → OptionalTree × List Token
+part_if_any ts None = (Absent, ts)
+part_if_any ts (Some x) = (Present x.0, x.1)
 
 -- `=` and a part (6.7p1, 6.7.2.2p1)
 unfoldable pub value : (List Token → Piece) → List Token → OptionalTree × List Token
-value read ts = optional ts (option_and_then read (after is_equals ts))
+value read ts = part_if_any ts (option_and_then read (after is_equals ts))
 
 -- ---- parts in a row: it stops before what can't be read
 
@@ -86,5 +86,5 @@ unfoldable pub after_comma : (List Token → Piece) → List Token → Piece
 after_comma read ts = option_and_then read (after is_comma ts)
 
 -- parts with commas between (6.7p1, 6.7.2.1p1, 6.7.2.2p1, 6.7.6p1, 6.7.9p1)
-unfoldable pub listed : (List Token → Piece) → List Token → Trees × List Token
-listed read ts = row_on (row (after_comma read)) NoTrees ts (read ts)
+unfoldable pub comma_list : (List Token → Piece) → List Token → Trees × List Token
+comma_list read ts = row_on (row (after_comma read)) NoTrees ts (read ts)

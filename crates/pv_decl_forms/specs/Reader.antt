@@ -15,7 +15,7 @@ use Rattle.pv_tree.specs.Places.{Specifiers, InitDeclarators, Members, MemberDec
 use Rattle.pv_expr_forms.specs.Follows.{or_else}
 use Rattle.pv_expr_forms.specs.Reader.{is_comma, after, read}
 use Rattle.pv_decl_forms.specs.declared.forms.Form.TheVariants as form
-use Rattle.pv_decl_forms.specs.Pieces.{Piece, Reads, is_semicolon, is_open_brace, is_close_brace, found_in, optional, value, row, after_comma, listed}
+use Rattle.pv_decl_forms.specs.Pieces.{Piece, Reads, is_semicolon, is_open_brace, is_close_brace, found_in, part_if_any, value, row, after_comma, comma_list}
 use Rattle.pv_decl_forms.specs.Declarators.{declarator}
 use Rattle.pv_decl_forms.specs.Grammar.{opens_block}
 
@@ -56,13 +56,13 @@ tag_alone line w None ts = None
 tag_alone line w (Some n) ts = Some (OfSpecifier (Tag line w n), ts)
 
 -- behind `{` (6.7.2.1p1, 6.7.2.2p1)
-unfoldable pub braced : Reads → (line : ℕ) → Word → Option ℕ → List Token → Piece
-braced below line word.Enum tag ts = listed_in_braces (λ enumerators comma. OfSpecifier (Enumeration line tag enumerators comma)) (listed (below Enumerators) ts)
-braced below line w tag ts = row_in_braces (λ members. OfSpecifier (Composite line w tag members)) (row (below Members) NoTrees ts)
+unfoldable pub behind_open_brace : Reads → (line : ℕ) → Word → Option ℕ → List Token → Piece
+behind_open_brace below line word.Enum tag ts = listed_in_braces (λ enumerators comma. OfSpecifier (Enumeration line tag enumerators comma)) (comma_list (below Enumerators) ts)
+behind_open_brace below line w tag ts = row_in_braces (λ members. OfSpecifier (Composite line w tag members)) (row (below Members) NoTrees ts)
 
 -- with braces, if they can be read (6.7.2.1p1, 6.7.2.2p1)
 unfoldable pub with_tag : Reads → (line : ℕ) → Word → Option ℕ × List Token → Piece
-with_tag below line w x = or_else (option_and_then (braced below line w x.0) (after is_open_brace x.1)) (tag_alone line w x.0 x.1)
+with_tag below line w x = or_else (option_and_then (behind_open_brace below line w x.0) (after is_open_brace x.1)) (tag_alone line w x.0 x.1)
 
 -- the specifier that a token begins (6.7.1 to 6.7.3, 6.7.8)
 unfoldable pub specifier_of : Names → Reads → (line : ℕ) → TokenKind → List Token → Piece
@@ -83,24 +83,24 @@ abbrev pub made_of : (Trees → OptionalTree → DeclarationTree) → Trees → 
 made_of make specs o = Some (OfDeclaration (make specs o.0), o.1)
 
 -- once specifiers are read, a declarator may follow (6.7.6.3, 6.7.7)
-unfoldable pub specified : (Trees → OptionalTree → DeclarationTree) → (List Token → Piece) → Trees × List Token → Piece
-specified make read x = if some x.0 then made_of make x.0 (optional x.1 (read x.1)) else None
+unfoldable pub behind_specifiers : (Trees → OptionalTree → DeclarationTree) → (List Token → Piece) → Trees × List Token → Piece
+behind_specifiers make read x = if some x.0 then made_of make x.0 (part_if_any x.1 (read x.1)) else None
 
 -- a parameter (6.7.6.3)
 unfoldable pub parameter : Reads → List Token → Piece
-parameter below ts = specified (Parameter (line_here ts)) (below ParameterDeclarators) (row (below Specifiers) NoTrees ts)
+parameter below ts = behind_specifiers (Parameter (line_here ts)) (below ParameterDeclarators) (row (below Specifiers) NoTrees ts)
 
 -- a declaration's semicolon (6.7p1)
-unfoldable pub ended : DeclarationTree → List Token → Piece
-ended d ts = option_map (λ rest. (OfDeclaration d, rest)) (after is_semicolon ts)
+unfoldable pub semicolon_behind : DeclarationTree → List Token → Piece
+semicolon_behind d ts = option_map (λ rest. (OfDeclaration d, rest)) (after is_semicolon ts)
 
 -- once the declarators of members are read (6.7.2.1p1)
 unfoldable pub with_members : (line : ℕ) → (specs : Trees) → Trees × List Token → Piece
-with_members line specs x = if some x.0 then ended (MemberDeclaration line specs x.0) x.1 else None
+with_members line specs x = if some x.0 then semicolon_behind (MemberDeclaration line specs x.0) x.1 else None
 
 -- once the specifiers of members are read (6.7.2.1p1)
 unfoldable pub member_with : Reads → (line : ℕ) → Trees × List Token → Piece
-member_with reads line x = if some x.0 then with_members line x.0 (listed (reads MemberDeclarators) x.1) else None
+member_with reads line x = if some x.0 then with_members line x.0 (comma_list (reads MemberDeclarators) x.1) else None
 
 -- a declaration of members (6.7.2.1)
 unfoldable pub member : Reads → List Token → Piece
@@ -124,29 +124,29 @@ unfoldable pub initializer : Names → Reads → (depth : ℕ) → List Token �
 initializer names below depth [] = None
 initializer names below depth (t ∷ ts) =
     if is_open_brace t.kind
-    then listed_in_braces (λ inits comma. OfInitializer (Braces t.line inits comma)) (listed (below Initializers) ts)
+    then listed_in_braces (λ inits comma. OfInitializer (Braces t.line inits comma)) (comma_list (below Initializers) ts)
     else option_map (λ x. (OfInitializer (Initial t.line x.0), x.1)) (read names depth 2 (t ∷ ts))
 
 -- once its declarator is read, a value may follow (6.7p1)
-unfoldable pub initialized : Reads → (line : ℕ) → Tree → List Token → Tree × List Token
-initialized reads line t ts = (OfDeclaration (InitDeclarator line (as_declarator t) (value (reads Initializers) ts).0), (value (reads Initializers) ts).1)
+unfoldable pub declarator_and_value : Reads → (line : ℕ) → Tree → List Token → Tree × List Token
+declarator_and_value reads line t ts = (OfDeclaration (InitDeclarator line (as_declarator t) (value (reads Initializers) ts).0), (value (reads Initializers) ts).1)
 
 -- an init-declarator (6.7p1)
 unfoldable pub init_declarator : Reads → List Token → Piece
-init_declarator reads ts = option_map (λ x. initialized reads (line_here ts) x.0 x.1) (reads MemberDeclarators ts)
+init_declarator reads ts = option_map (λ x. declarator_and_value reads (line_here ts) x.0 x.1) (reads MemberDeclarators ts)
 
 -- ---- all of it, by the place
 
 -- the trees that are nodes, by their place
-unfoldable pub made : Names → Reads → (depth : ℕ) → Reads
-made names below depth Specifiers ts = specifier names below ts
-made names below depth MemberDeclarators ts = declarator names below depth form.Named ts
-made names below depth AbstractDeclarators ts = declarator names below depth form.Abstract ts
-made names below depth ParameterDeclarators ts = declarator names below depth form.Either ts
-made names below depth Parameters ts = parameter below ts
-made names below depth Initializers ts = initializer names below depth ts
-made names below depth Constants ts = option_map (λ x. (OfExpression x.0, x.1)) (read names (suc depth) 3 ts)
-made names below depth _ ts = None
+unfoldable pub node_readers : Names → Reads → (depth : ℕ) → Reads
+node_readers names below depth Specifiers ts = specifier names below ts
+node_readers names below depth MemberDeclarators ts = declarator names below depth form.Named ts
+node_readers names below depth AbstractDeclarators ts = declarator names below depth form.Abstract ts
+node_readers names below depth ParameterDeclarators ts = declarator names below depth form.Either ts
+node_readers names below depth Parameters ts = parameter below ts
+node_readers names below depth Initializers ts = initializer names below depth ts
+node_readers names below depth Constants ts = option_map (λ x. (OfExpression x.0, x.1)) (read names (suc depth) 3 ts)
+node_readers names below depth _ ts = None
 
 -- where no depth is left: nothing
 abbrev pub nothing : Reads
@@ -167,24 +167,24 @@ with_parts names reads place ts = reads place ts
 -- a tree that stands at a place, of at most so much depth
 unfoldable pub readers : Names → (depth : ℕ) → Reads
 readers names zero place ts = with_parts names (leaves names) place ts
-readers names (suc depth) place ts = with_parts names (made names (readers names depth) depth) place ts
+readers names (suc depth) place ts = with_parts names (node_readers names (readers names depth) depth) place ts
 
 -- ---- type names and declarations
 
 -- the longest type name (6.7.7)
 unfoldable pub type_name : Names → (depth : ℕ) → List Token → Piece
-type_name names depth ts = specified (TypeName (line_here ts)) (readers names depth AbstractDeclarators) (row (readers names depth Specifiers) NoTrees ts)
+type_name names depth ts = behind_specifiers (TypeName (line_here ts)) (readers names depth AbstractDeclarators) (row (readers names depth Specifiers) NoTrees ts)
 
 -- once all init-declarators are read (6.7p1)
-unfoldable pub declared : (line : ℕ) → (specs : Trees) → Trees × List Token → Piece
-declared line specs x = ended (Declaration line specs x.0) x.1
+unfoldable pub behind_declarators : (line : ℕ) → (specs : Trees) → Trees × List Token → Piece
+behind_declarators line specs x = semicolon_behind (Declaration line specs x.0) x.1
 
 -- once the first declarator is read: a function's (6.9.1p1), or a declaration's with others (6.7p1)
 unfoldable pub after_declarator : Reads → (line here : ℕ) → (specs : Trees) → Tree → List Token → Piece
 after_declarator below line here specs t ts =
     if opens_block ts
     then Some (OfDeclaration (Parameter line specs (Present t)), ts)
-    else declared line specs (row (after_comma (below InitDeclarators)) (Then NoTrees (initialized below here t ts).0) (initialized below here t ts).1)
+    else behind_declarators line specs (row (after_comma (below InitDeclarators)) (Then NoTrees (declarator_and_value below here t ts).0) (declarator_and_value below here t ts).1)
 
 -- the init-declarators from a first one on (6.7p1)
 abbrev pub declared_from : Reads → Tree → List Token → Trees × List Token
@@ -193,7 +193,7 @@ declared_from reads first ts = row (after_comma (reads InitDeclarators)) (Then N
 -- once specifiers are read (6.7p1)
 unfoldable pub after_specifiers : Reads → (line : ℕ) → (specs : Trees) → List Token → Piece
 after_specifiers below line specs ts =
-    or_else (ended (Declaration line specs NoTrees) ts) (option_and_then (λ x. after_declarator below line (line_here ts) specs x.0 x.1) (below MemberDeclarators ts))
+    or_else (semicolon_behind (Declaration line specs NoTrees) ts) (option_and_then (λ x. after_declarator below line (line_here ts) specs x.0 x.1) (below MemberDeclarators ts))
 
 -- the same of specifiers that there are (6.7p1)
 unfoldable pub declaration_with : Reads → (line : ℕ) → Trees × List Token → Piece

@@ -6,11 +6,11 @@ ghost use Rattle.pv_tree.specs.Children.{HasSpecChildren, HasDeclaratorChildren}
 ghost use Rattle.pv_tree.specs.Nodes.{specifier_of, declarator_of};
 ghost use Rattle.pv_tree.specs.Syntax.{OfDeclarator, Declaration, Parameter, TypeName, Composite, Enumeration, Braces, OfSpecifier, OfInitializer};
 ghost use Rattle.pv_tree.specs.Tables.{Forest, HasList, trees_of, trees_at, optional_at, is_declaration, is_declarator, is_expression, is_initializer, is_specifier, Is, Extends};
-ghost use Rattle.pv_decl_forms.specs.Answers.{seen, IsThere, Answers, AnswersAt};
-ghost use Rattle.pv_decl_forms.specs.Declarators.{bracketed, variadic_at, with_parameters, pointed, in_parentheses};
+ghost use Rattle.pv_decl_forms.specs.Answers.{piece_from, IsThere, Answers, AnswersAt};
+ghost use Rattle.pv_decl_forms.specs.Declarators.{behind_size, variadic_at, with_parameters, pointer_tree, in_parentheses};
 ghost use Rattle.pv_decl_forms.specs.Parts.{word_of_composite, word_of_tag, keyword_of, plain_of, named_of, array_of, function_of};
-ghost use Rattle.pv_decl_forms.specs.Pieces.{optional};
-ghost use Rattle.pv_decl_forms.specs.Reader.{listed_in_braces, row_in_braces, tag_alone, made_of, ended, with_members};
+ghost use Rattle.pv_decl_forms.specs.Pieces.{part_if_any};
+ghost use Rattle.pv_decl_forms.specs.Reader.{listed_in_braces, row_in_braces, tag_alone, made_of, semicolon_behind, with_members};
 
 use crate::forms::{CompositeWord, Form, Sign, TagWord};
 use crate::nodes::{
@@ -192,7 +192,7 @@ pub fn named(
 
 /// A pointer, whose `*` and words `const` end at a place, and what it stands before, if that can be
 /// read (C17 6.7.6.1).
-#[tactic(auto, using(pv_tree::proofs::Kept::extends_same), unfolding(crate::specs::Declarators::pointed))]
+#[tactic(auto, using(pv_tree::proofs::Kept::extends_same), unfolding(crate::specs::Declarators::pointer_tree))]
 pub fn pointed(
     tokens: &Tokens,
     at: u32,
@@ -205,7 +205,7 @@ pub fn pointed(
     requires place { at ≤ length tokens.now.tokens }
     requires within { IsThere into.old is_declarator tokens.now.tokens within }
     ensures keeps { Extends into.old into.new }
-    ensures ok { AnswersAt into.new is_declarator tokens.now.tokens at result (λ ts. pointed form line consts ts (seen into.old.forest tokens.now.tokens within)) }
+    ensures ok { AnswersAt into.new is_declarator tokens.now.tokens at result (λ ts. pointer_tree form line consts ts (piece_from into.old.forest tokens.now.tokens within)) }
 {
     let Some((inner, end)) = within else {
         if !form.allows_abstract() {
@@ -241,7 +241,7 @@ pub fn parenthesized(
 ) -> Result<Option<(NodeId, u32)>, NoMemory>
     requires { IsThere into.old is_declarator tokens.now.tokens within }
     ensures keeps { Extends into.old into.new }
-    ensures ok { IfOk result (λ r. Answers into.new is_declarator tokens.now.tokens r (option_and_then (λ x. in_parentheses line x.0 x.1) (seen into.old.forest tokens.now.tokens within))) }
+    ensures ok { IfOk result (λ r. Answers into.new is_declarator tokens.now.tokens r (option_and_then (λ x. in_parentheses line x.0 x.1) (piece_from into.old.forest tokens.now.tokens within))) }
 {
     let Some((inner, end)) = within else {
         return Ok(None);
@@ -258,7 +258,7 @@ pub fn parenthesized(
 }
 
 /// An array, whose size ends at a place, behind a declarator that may be left out (C17 6.7.6.2).
-#[tactic(auto, using(pv_tree::proofs::Kept::extends_same), unfolding(crate::specs::Declarators::bracketed))]
+#[tactic(auto, using(pv_tree::proofs::Kept::extends_same), unfolding(crate::specs::Declarators::behind_size))]
 pub fn array_of(
     tokens: &Tokens,
     at: u32,
@@ -271,7 +271,7 @@ pub fn array_of(
     requires left { IfSome left (λ n. Is into.old is_declarator n) }
     requires size { IfSome size (λ n. Is into.old is_expression n) }
     ensures keeps { Extends into.old into.new }
-    ensures ok { AnswersAt into.new is_declarator tokens.now.tokens at result (λ ts. bracketed (array_of line (optional_at into.old.forest left)) (optional_at into.old.forest size, ts)) }
+    ensures ok { AnswersAt into.new is_declarator tokens.now.tokens at result (λ ts. behind_size (array_of line (optional_at into.old.forest left)) (optional_at into.old.forest size, ts)) }
 {
     let Some(next) = after(tokens, at, Sign::CloseBracket) else {
         return Ok(None);
@@ -323,7 +323,7 @@ pub fn function_node(
 
 /// A function, whose parameters end at a place, behind a declarator that may be left out
 /// (C17 6.7.6.3).
-#[tactic(auto, using(pv_tree::proofs::Kept::extends_same), unfolding(crate::specs::Declarators::with_parameters, crate::specs::Declarators::closed))]
+#[tactic(auto, using(pv_tree::proofs::Kept::extends_same), unfolding(crate::specs::Declarators::with_parameters, crate::specs::Declarators::behind_parameters))]
 pub fn function_of(
     tokens: &Tokens,
     at: u32,
@@ -350,7 +350,7 @@ pub fn function_of(
 // ---- declarations
 
 /// A member declaration, whose declarators end at a place (C17 6.7.2.1p1).
-#[tactic(auto, using(pv_tree::proofs::Kept::extends_same), unfolding(crate::specs::Reader::with_members, crate::specs::Reader::ended))]
+#[tactic(auto, using(pv_tree::proofs::Kept::extends_same), unfolding(crate::specs::Reader::with_members, crate::specs::Reader::semicolon_behind))]
 pub fn member_of(
     tokens: &Tokens,
     at: u32,
@@ -392,7 +392,7 @@ pub fn parameter_of(
     requires declarator { IsThere into.old is_declarator tokens.now.tokens declarator }
     ensures keeps { Extends into.old into.new }
     ensures ok { let old = into.old.forest in
-        AnswersAt into.new is_declaration tokens.now.tokens at result (λ ts. made_of (Parameter line) (trees_of old specs.now) (optional ts (seen old tokens.now.tokens declarator))) }
+        AnswersAt into.new is_declaration tokens.now.tokens at result (λ ts. made_of (Parameter line) (trees_of old specs.now) (part_if_any ts (piece_from old tokens.now.tokens declarator))) }
 {
     let specs = into.add_list(specs)?;
     let (declarator, end) = match declarator {
@@ -419,7 +419,7 @@ pub fn type_name_of(
     requires declarator { IsThere into.old is_declarator tokens.now.tokens declarator }
     ensures keeps { Extends into.old into.new }
     ensures ok { let old = into.old.forest in
-        AnswersAt into.new is_declaration tokens.now.tokens at result (λ ts. made_of (TypeName line) (trees_of old specs.now) (optional ts (seen old tokens.now.tokens declarator))) }
+        AnswersAt into.new is_declaration tokens.now.tokens at result (λ ts. made_of (TypeName line) (trees_of old specs.now) (part_if_any ts (piece_from old tokens.now.tokens declarator))) }
 {
     let specs = into.add_list(specs)?;
     let (declarator, end) = match declarator {
@@ -443,7 +443,7 @@ pub fn type_word_of(
     requires spec { Is into.old is_specifier spec }
     ensures keeps { Extends into.old into.new }
     ensures ok { let old = into.old.forest in
-        AnswersAt into.new is_declaration tokens.now.tokens at result (λ ts. made_of (TypeName line) (trees_of old (spec ∷ [])) (optional ts (seen old tokens.now.tokens None))) }
+        AnswersAt into.new is_declaration tokens.now.tokens at result (λ ts. made_of (TypeName line) (trees_of old (spec ∷ [])) (part_if_any ts (piece_from old tokens.now.tokens None))) }
 {
     let specs = into.add_single(spec)?;
     let type_name = Decl::TypeName {
@@ -454,7 +454,7 @@ pub fn type_word_of(
 }
 
 /// A declaration, whose init-declarators end at a place (C17 6.7p1).
-#[tactic(auto, using(pv_tree::proofs::Kept::extends_same), unfolding(crate::specs::Reader::ended))]
+#[tactic(auto, using(pv_tree::proofs::Kept::extends_same), unfolding(crate::specs::Reader::semicolon_behind))]
 pub fn declaration_of(
     tokens: &Tokens,
     at: u32,
@@ -467,7 +467,7 @@ pub fn declaration_of(
     requires specs { All (λ n. Is into.old is_specifier n) specs.now }
     requires declared { All (λ n. Is into.old is_declaration n) declared.now }
     ensures keeps { Extends into.old into.new }
-    ensures ok { AnswersAt into.new is_declaration tokens.now.tokens at result (ended (Declaration line (trees_of into.old.forest specs.now) (trees_of into.old.forest declared.now))) }
+    ensures ok { AnswersAt into.new is_declaration tokens.now.tokens at result (semicolon_behind (Declaration line (trees_of into.old.forest specs.now) (trees_of into.old.forest declared.now))) }
 {
     let Some(end) = after(tokens, at, Sign::Semicolon) else {
         return Ok(None);

@@ -6,7 +6,7 @@ ghost use Rattle.pv_types.specs.Formed.{is_union_in, IsBuilt};
 ghost use Rattle.pv_types.specs.Layouts.{look};
 ghost use Rattle.pv_types.specs.LayoutParts.{or_none};
 ghost use Rattle.pv_types.specs.Members.{placed_in};
-ghost use Rattle.pv_typed.specs.Tables.{whole};
+ghost use Rattle.pv_typed.specs.Tables.{whole_unit};
 ghost use Rattle.pv_typed.specs.Known.{AreKnown};
 ghost use Rattle.pv_describe.specs.Describing as described;
 ghost use Rattle.pv_describe.specs.DescribingParts as described_parts;
@@ -20,7 +20,7 @@ use std::alloc::Global;
 
 /// What `check` prints: how many external declarations there are (C17 6.9p1). The only error is want of memory.
 pub fn check_text(alloc: Global, u: &TypedUnit) -> Result<Vec<u8>, NoMemory>
-    ensures { IfOk result (λ v. v.items ≡ described.check_text (whole u.now)) }
+    ensures { IfOk result (λ v. v.items ≡ described.check_text (whole_unit u.now)) }
 {
     let count = u.declarations();
     Ok(format!(in alloc; "checked declarations={count}\n")?.into_bytes())
@@ -31,7 +31,7 @@ pub fn check_text(alloc: Global, u: &TypedUnit) -> Result<Vec<u8>, NoMemory>
 pub fn layout_text(alloc: Global, u: &TypedUnit) -> Result<Vec<u8>, NoMemory>
     requires known { AreKnown u.now }
     requires small { AreSmall u.now.known }
-    ensures { IfOk result (λ v. v.items ≡ described.layout_text (whole u.now)) }
+    ensures { IfOk result (λ v. v.items ≡ described.layout_text (whole_unit u.now)) }
 {
     let mut text = Vec::new(alloc);
     for t in u.tags() {
@@ -44,7 +44,7 @@ pub fn layout_text(alloc: Global, u: &TypedUnit) -> Result<Vec<u8>, NoMemory>
 fn add_tag(alloc: Global, u: &TypedUnit, t: TypeId, text: &mut Vec<u8>) -> Result<(), NoMemory>
     requires known { t.0 < length u.now.known.terms }
     requires small { AreSmall u.now.known }
-    ensures { OnOk result (text.new.items ≡ text.old.items ++ described.tag_text (whole u.now) (tree u.now.known t.0)) }
+    ensures { OnOk result (text.new.items ≡ text.old.items ++ described.tag_text (whole_unit u.now) (tree u.now.known t.0)) }
 {
     match u.types().view(t) {
         Term::Struct(tag) => add_struct(alloc, u, t, tag, text),
@@ -72,7 +72,7 @@ fn add_struct(
     requires structure { (heading_at u.now.known.tags tag).union ≡ false }
     requires built { IsBuilt u.now.known }
     requires small { AreSmall u.now.known }
-    ensures { OnOk result (text.new.items ≡ text.old.items ++ described.tag_text (whole u.now) (StructTag tag)) }
+    ensures { OnOk result (text.new.items ≡ text.old.items ++ described.tag_text (whole_unit u.now) (StructTag tag)) }
 {
     let types = u.types();
     if !types.is_complete(t) {
@@ -103,7 +103,7 @@ fn add_union(
     requires union { (heading_at u.now.known.tags tag).union ≡ true }
     requires built { IsBuilt u.now.known }
     requires small { AreSmall u.now.known }
-    ensures { OnOk result (text.new.items ≡ text.old.items ++ described.tag_text (whole u.now) (UnionTag tag)) }
+    ensures { OnOk result (text.new.items ≡ text.old.items ++ described.tag_text (whole_unit u.now) (UnionTag tag)) }
 {
     let types = u.types();
     if !types.is_complete(t) {
@@ -131,7 +131,7 @@ fn add_struct_members(
     requires complete { IsTrue (is_some (look (env u.now.known) tag)) }
     requires structure { is_union_in u.now.known.done tag ≡ false }
     requires small { (or_none (look (env u.now.known) tag)).size ≤ 2 ^ 32 }
-    ensures { OnOk result (text.new.items ≡ text.old.items ++ described.member_lines (whole u.now) (placed_in (whole u.now).completed (StructTag tag))) }
+    ensures { OnOk result (text.new.items ≡ text.old.items ++ described.member_lines (whole_unit u.now) (placed_in (whole_unit u.now).completed (StructTag tag))) }
 {
     let types = u.types();
     let mut end = 0u64;
@@ -156,7 +156,7 @@ fn add_union_members(
     requires complete { IsTrue (is_some (look (env u.now.known) tag)) }
     requires union { is_union_in u.now.known.done tag ≡ true }
     requires small { (or_none (look (env u.now.known) tag)).size ≤ 2 ^ 32 }
-    ensures { OnOk result (text.new.items ≡ text.old.items ++ described.member_lines (whole u.now) (placed_in (whole u.now).completed (UnionTag tag))) }
+    ensures { OnOk result (text.new.items ≡ text.old.items ++ described.member_lines (whole_unit u.now) (placed_in (whole_unit u.now).completed (UnionTag tag))) }
 {
     let types = u.types();
     for m in types.members(tag) {
@@ -169,7 +169,7 @@ fn add_union_members(
 /// The name of a structure or union, empty where it has none (C17 6.7.2.3).
 fn tag_name(u: &TypedUnit, tag: u32) -> &[u8]
     requires { tag < length u.now.known.tags }
-    ensures { result.now ≡ described_parts.tag_name (whole u.now) tag }
+    ensures { result.now ≡ described_parts.tag_name (whole_unit u.now) tag }
 {
     match u.types().tag_name(tag) {
         Some(name) => source_name(u, name),
@@ -179,7 +179,7 @@ fn tag_name(u: &TypedUnit, tag: u32) -> &[u8]
 
 /// The text of a name of the source (C17 6.4.2.1).
 fn source_name(u: &TypedUnit, name: u32) -> &[u8]
-    ensures { result.now ≡ described.source_name (whole u.now) name }
+    ensures { result.now ≡ described.source_name (whole_unit u.now) name }
 {
     let names = u.names();
     let place = u64::from(name) + 2;

@@ -1,10 +1,10 @@
 -- A search on its way down to the scalars that a byte lies in.
 use Rattle.std.proofs.Common.{◌≡◌, ℕ, ◌+◌, ◌-◌, ◌<◌, ◌≤◌, ◌^◌, Bool, true, false, ◌&&◌, ◌||◌, nat_le, nat_lt, IsTrue, List, Some, length, refl, sym, ◌∙◌, ap, arith, is_some}
 use Rattle.pv_types.specs.Ty.{Ty, ArrayOf, StructTag, UnionTag}
-use Rattle.pv_types.specs.Layouts.{Part, Entry, look, layout_in, layout_of, is_complete_in, repeated}
+use Rattle.pv_types.specs.Layouts.{Part, Entry, look, layout_in, layout_of, is_complete_in, parts_of_elements}
 use Rattle.pv_types.specs.LayoutParts.{part_count, union_parts, struct_parts, or_none}
 use Rattle.pv_types.specs.Known.{Known, tree, env}
-use Rattle.pv_types.specs.Formed.{named, is_union_in, IsBuilt}
+use Rattle.pv_types.specs.Formed.{named_members, is_union_in, IsBuilt}
 use Rattle.pv_types.proofs.Counted.{element_fewer}
 use Rattle.pv_types.proofs.Made.{made}
 use Rattle.pv_types.proofs.Wholes.{inner_parts}
@@ -34,26 +34,26 @@ no_head true r = refl
 no_head false r = refl
 
 pub struct_whole : (m : Known) (t tag o : ℕ) (s : Sought) (b : Bool) → IsBuilt m → IsTrue (is_some (look (env m) tag)) → is_union_in m.done tag ≡ false → tree m t ≡ StructTag tag
-    → b ≡ some_over (env m) (passes m s) o (struct_parts (env m) (named m tag) 0) → b ≡ some_over (env m) (passes m s) o (layout_in (env m) (tree m t)).parts
+    → b ≡ some_over (env m) (passes m s) o (struct_parts (env m) (named_members m tag) 0) → b ≡ some_over (env m) (passes m s) o (layout_in (env m) (tree m t)).parts
 struct_whole m t tag o s b built there flag is e =
-    let whole : or_none (look (env m) tag) ≡ layout_of (env m) tag false (named m tag) = ap or_none (made m tag built there).laid ∙ ap (λ u. layout_of (env m) tag u (named m tag)) flag in
+    let whole : or_none (look (env m) tag) ≡ layout_of (env m) tag false (named_members m tag) = ap or_none (made m tag built there).laid ∙ ap (λ u. layout_of (env m) tag u (named_members m tag)) flag in
     e ∙ sym (ap (λ u. some_over (env m) (passes m s) o (layout_in (env m) u).parts) is
     ∙ ap (λ l. some_over (env m) (passes m s) o l.parts) whole
-    ∙ no_head (covers (env m) o (record { offset = 0; t = StructTag tag })) (some_over (env m) (passes m s) o (struct_parts (env m) (named m tag) 0)))
+    ∙ no_head (covers (env m) o (record { offset = 0; t = StructTag tag })) (some_over (env m) (passes m s) o (struct_parts (env m) (named_members m tag) 0)))
 
 pub union_whole : (m : Known) (t tag o : ℕ) (s : Sought) (b : Bool) → IsBuilt m → IsTrue (is_some (look (env m) tag)) → is_union_in m.done tag ≡ true → tree m t ≡ UnionTag tag
-    → b ≡ some_over (env m) (passes m s) o (union_parts (env m) (named m tag)) → b ≡ some_over (env m) (passes m s) o (layout_in (env m) (tree m t)).parts
+    → b ≡ some_over (env m) (passes m s) o (union_parts (env m) (named_members m tag)) → b ≡ some_over (env m) (passes m s) o (layout_in (env m) (tree m t)).parts
 union_whole m t tag o s b built there flag is e =
-    let whole : or_none (look (env m) tag) ≡ layout_of (env m) tag true (named m tag) = ap or_none (made m tag built there).laid ∙ ap (λ u. layout_of (env m) tag u (named m tag)) flag in
+    let whole : or_none (look (env m) tag) ≡ layout_of (env m) tag true (named_members m tag) = ap or_none (made m tag built there).laid ∙ ap (λ u. layout_of (env m) tag u (named_members m tag)) flag in
     e ∙ sym (ap (λ u. some_over (env m) (passes m s) o (layout_in (env m) u).parts) is
     ∙ ap (λ l. some_over (env m) (passes m s) o l.parts) whole
-    ∙ no_head (covers (env m) o (record { offset = 0; t = UnionTag tag })) (some_over (env m) (passes m s) o (union_parts (env m) (named m tag))))
+    ∙ no_head (covers (env m) o (record { offset = 0; t = UnionTag tag })) (some_over (env m) (passes m s) o (union_parts (env m) (named_members m tag))))
 
 pub array_whole : (m : Known) (t e n o : ℕ) (s : Sought) (b : Bool) → tree m t ≡ ArrayOf (tree m e) (Some n)
-    → b ≡ some_over (env m) (passes m s) o (repeated n (layout_in (env m) (tree m e)).size (layout_in (env m) (tree m e)).parts) → b ≡ some_over (env m) (passes m s) o (layout_in (env m) (tree m t)).parts
+    → b ≡ some_over (env m) (passes m s) o (parts_of_elements n (layout_in (env m) (tree m e)).size (layout_in (env m) (tree m e)).parts) → b ≡ some_over (env m) (passes m s) o (layout_in (env m) (tree m t)).parts
 array_whole m t e n o s b is same =
     same ∙ sym (ap (λ u. some_over (env m) (passes m s) o (layout_in (env m) u).parts) is
-    ∙ no_head (covers (env m) o (record { offset = 0; t = ArrayOf (tree m e) (Some n) })) (some_over (env m) (passes m s) o (repeated n (layout_in (env m) (tree m e)).size (layout_in (env m) (tree m e)).parts)))
+    ∙ no_head (covers (env m) o (record { offset = 0; t = ArrayOf (tree m e) (Some n) })) (some_over (env m) (passes m s) o (parts_of_elements n (layout_in (env m) (tree m e)).size (layout_in (env m) (tree m e)).parts)))
 
 -- qualifiers change nothing of what is sought
 passes_blind : (m : Known) (s : Sought) (j : ℕ) → IsBlind (passes m s j)

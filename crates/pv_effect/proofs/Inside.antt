@@ -2,9 +2,9 @@
 use Rattle.std.proofs.Common.{◌≡◌, ℕ, zero, suc, ◌+◌, ◌*◌, ◌<◌, ◌≤◌, max, Bool, true, false, IsTrue, List, [], ◌∷◌, ◌++◌, Some, None, refl, sym, ◌∙◌, ap, subst, arith}
 use Rattle.std.specs.Int.{next_multiple_of}
 use Rattle.pv_types.specs.Ty.{Ty, VoidTy, IntTy, PointerTo, ArrayOf, StructTag, UnionTag, FunctionTy, ConstOf}
-use Rattle.pv_types.specs.Layouts.{Part, Layout, Entry, Named, look, layout_in, layout_of, is_complete_in, end_of, member_parts, tag_type, shifted, repeated}
+use Rattle.pv_types.specs.Layouts.{Part, Layout, Entry, Named, look, layout_in, layout_of, is_complete_in, end_of, member_parts, tag_type, shifted_parts, parts_of_elements}
 use Rattle.pv_types.specs.LayoutParts.{part_count, struct_end, union_end, union_parts, struct_parts, or_none, behind_whole}
-use Rattle.pv_types.specs.Formed.{AreComplete, named, is_union_in, IsBuilt}
+use Rattle.pv_types.specs.Formed.{AreComplete, named_members, is_union_in, IsBuilt}
 use Rattle.pv_types.specs.Known.{Known, env}
 use Rattle.pv_types.proofs.Counted.{AreFewer, const_count, element_fewer, members_fewer}
 use Rattle.pv_types.proofs.Fills.{struct_end-ge, union_end-ge, left_true, right_true, lt_true}
@@ -19,19 +19,19 @@ AreInside-append : (env : List Entry) (s : ℕ) (ps qs : List Part) → AreInsid
 AreInside-append env s [] qs i j = j
 AreInside-append env s (p ∷ ps) qs i j = (i.0, AreInside-append env s ps qs i.1 j)
 
-AreInside-shifted : (env : List Entry) (s k : ℕ) (ps : List Part) → AreInside env s ps → AreInside env (k + s) (shifted k ps)
+AreInside-shifted : (env : List Entry) (s k : ℕ) (ps : List Part) → AreInside env s ps → AreInside env (k + s) (shifted_parts k ps)
 AreInside-shifted env s k [] i = tt
 AreInside-shifted env s k (p ∷ ps) i = let here = i.0 in (omega (arith, here), AreInside-shifted env s k ps i.1)
 
 next_product : (n s : ℕ) → n * s + s ≡ suc n * s
 next_product n s = omega arith
 
-AreInside-repeated : (env : List Entry) (n s : ℕ) (ps : List Part) → AreInside env s ps → AreInside env (n * s) (repeated n s ps)
+AreInside-repeated : (env : List Entry) (n s : ℕ) (ps : List Part) → AreInside env s ps → AreInside env (n * s) (parts_of_elements n s ps)
 AreInside-repeated env zero s ps i = tt
 AreInside-repeated env (suc n) s ps i =
-    AreInside-append env (suc n * s) (repeated n s ps) (shifted (n * s) ps)
-    (AreInside-more env (n * s) (suc n * s) (repeated n s ps) (omega (arith, next_product n s)) (AreInside-repeated env n s ps i))
-    (AreInside-more env (n * s + s) (suc n * s) (shifted (n * s) ps) (omega (arith, next_product n s)) (AreInside-shifted env s (n * s) ps i))
+    AreInside-append env (suc n * s) (parts_of_elements n s ps) (shifted_parts (n * s) ps)
+    (AreInside-more env (n * s) (suc n * s) (parts_of_elements n s ps) (omega (arith, next_product n s)) (AreInside-repeated env n s ps i))
+    (AreInside-more env (n * s + s) (suc n * s) (shifted_parts (n * s) ps) (omega (arith, next_product n s)) (AreInside-shifted env s (n * s) ps i))
 
 -- the parts of every member end within it
 abbrev AllInside : List Entry → List Named → Type 0
@@ -77,9 +77,9 @@ made_inside : (m : Known) (n : ℕ) → IsBuilt m → IsTrue (is_complete_in (en
     → AreInside (env m) (or_none (look (env m) n)).size (or_none (look (env m) n)).parts
 made_inside m n built there one =
     let h = made m n built there in
-    let whole : or_none (look (env m) n) ≡ layout_of (env m) n (is_union_in m.done n) (named m n) = ap or_none h.laid in
-    let lower : AreFewer (env m) (part_count (or_none (look (env m) n))) (named m n) = rw whole (members_fewer (env m) n (is_union_in m.done n) (named m n)) in
-    tag_inside (env m) n (is_union_in m.done n) (named m n) whole (all_inside (env m) _ (named m n) h.complete lower one)
+    let whole : or_none (look (env m) n) ≡ layout_of (env m) n (is_union_in m.done n) (named_members m n) = ap or_none h.laid in
+    let lower : AreFewer (env m) (part_count (or_none (look (env m) n))) (named_members m n) = rw whole (members_fewer (env m) n (is_union_in m.done n) (named_members m n)) in
+    tag_inside (env m) n (is_union_in m.done n) (named_members m n) whole (all_inside (env m) _ (named_members m n) h.complete lower one)
 
 -- the parts behind the whole end where the others do
 AreInside-behind : (env : List Entry) (s : ℕ) (ps : List Part) → AreInside env s ps → AreInside env s (behind_whole ps)

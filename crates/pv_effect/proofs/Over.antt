@@ -3,7 +3,7 @@ use Rattle.std.proofs.Common.{◌≡◌, ℕ, zero, suc, ◌+◌, ◌-◌, ◌*�
 use Rattle.std.proofs.Math.Nat.{div-lt_iff_lt-mul, div-mul-le_self, mod-eq-sub-div-mul, mul-le-mul_left, mul-div-le}
 use Rattle.std.proofs.lemmas.Bool.Decides.{nat_tests}
 use Rattle.pv_types.specs.Ty.{Ty}
-use Rattle.pv_types.specs.Layouts.{Part, Entry, layout_in, shifted, repeated}
+use Rattle.pv_types.specs.Layouts.{Part, Entry, layout_in, shifted_parts, parts_of_elements}
 use Rattle.pv_layout.specs.Parts.{leaves}
 use Rattle.pv_types.specs.Sorts.{is_scalar}
 use Rattle.pv_layout.proofs.PartLaws.{lt_test, ge_test}
@@ -47,12 +47,12 @@ past_test s e b h k = grind (arith, nat_tests)
 two_steps : (b k o : ℕ) → b - (k + o) ≡ b - k - o
 two_steps b k o = omega arith
 
-pub some_over-shifted : (env : List Entry) (f : ℕ → Ty → Bool) (k b : ℕ) (ps : List Part) → k ≤ b → some_over env f b (shifted k ps) ≡ some_over env f (b - k) ps
+pub some_over-shifted : (env : List Entry) (f : ℕ → Ty → Bool) (k b : ℕ) (ps : List Part) → k ≤ b → some_over env f b (shifted_parts k ps) ≡ some_over env f (b - k) ps
 some_over-shifted env f k b [] h = refl
 some_over-shifted env f k b (p ∷ ps) h =
     rw (begins_test k p.offset b h, ends_test k p.offset b (layout_in env p.t).size h, two_steps b k p.offset, some_over-shifted env f k b ps h) refl
 
-pub some_over-before : (env : List Entry) (f : ℕ → Ty → Bool) (k b : ℕ) (ps : List Part) → b < k → some_over env f b (shifted k ps) ≡ false
+pub some_over-before : (env : List Entry) (f : ℕ → Ty → Bool) (k b : ℕ) (ps : List Part) → b < k → some_over env f b (shifted_parts k ps) ≡ false
 some_over-before env f k b [] h = refl
 some_over-before env f k b (p ∷ ps) h = rw (later_test k p.offset b h) (some_over-before env f k b ps h)
 
@@ -78,11 +78,11 @@ above_step b s n h lt =
 
 -- the byte lies in the element of its division
 pub over_repeated : (env : List Entry) (f : ℕ → Ty → Bool) (s b : ℕ) (ps : List Part) (n : ℕ) → 0 < s → AreInside env s ps
-    → some_over env f b (repeated n s ps) ≡ (nat_lt (b / s) n && some_over env f (b % s) ps)
+    → some_over env f b (parts_of_elements n s ps) ≡ (nat_lt (b / s) n && some_over env f (b % s) ps)
 over_repeated env f s b ps zero h i = rw (ge_test (b / s) 0 (omega arith)) refl
 over_repeated env f s b ps (suc n) h i =
-    some_over-append env f b (repeated n s ps) (shifted (n * s) ps)
-    ∙ ap (λ c. c || some_over env f b (shifted (n * s) ps)) (over_repeated env f s b ps n h i)
+    some_over-append env f b (parts_of_elements n s ps) (shifted_parts (n * s) ps)
+    ∙ ap (λ c. c || some_over env f b (shifted_parts (n * s) ps)) (over_repeated env f s b ps n h i)
     ∙ elim (three_ways (b / s) n) [
       | inl lt ↦ rw (lt_test (b / s) n lt, lt_test (b / s) (suc n) (omega arith), some_over-before env f (n * s) b ps (below_step b s n h lt)) (or_none (some_over env f (b % s) ps))
       | inr rest ↦ elim rest [

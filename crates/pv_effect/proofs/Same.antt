@@ -13,7 +13,7 @@ use Rattle.pv_types.specs.Known.{Known, tree, trees, tree_in, env}
 use Rattle.pv_types.specs.Formed.{IsBuilt}
 use Rattle.pv_types.proofs.Injective.{trees_differ}
 use Rattle.pv_layout.specs.Parts.{some_at, leaves, agrees, are_counterparts}
-use Rattle.pv_types.specs.Sorts.{bare}
+use Rattle.pv_types.specs.Sorts.{bare_type}
 use Rattle.pv_layout.proofs.Ahead.{bare_no}
 use Rattle.pv_types.specs.SameTypes.{same_type, same_size, same_types}
 
@@ -111,8 +111,8 @@ int_compatible k (FunctionTy u us v) h = refl
 int_compatible k (ConstOf u) h = absurd (h u refl)
 
 -- an integer at the beginning of itself
-pub int_leaf : (m : Known) (k : IntKind) (t u : Ty) → t ≡ IntTy k → some_at (agrees u) 0 (leaves (layout_in (env m) t).parts) ≡ (same_type t (bare u) || are_counterparts t (bare u))
-int_leaf m k t u e = rw (e, int_compatible k (bare u) (bare_no u)) (last (same_type (IntTy k) (bare u) || are_counterparts (IntTy k) (bare u)))
+pub int_leaf : (m : Known) (k : IntKind) (t u : Ty) → t ≡ IntTy k → some_at (agrees u) 0 (leaves (layout_in (env m) t).parts) ≡ (same_type t (bare_type u) || are_counterparts t (bare_type u))
+int_leaf m k t u e = rw (e, int_compatible k (bare_type u) (bare_no u)) (last (same_type (IntTy k) (bare_type u) || are_counterparts (IntTy k) (bare_type u)))
   where
     last : (b : Bool) → (b || false) ≡ b
     last true = refl

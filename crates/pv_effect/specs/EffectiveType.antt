@@ -3,7 +3,7 @@
 use Rattle.std.specs.Prelude.{ℕ, suc, ◌+◌, ◌-◌, Bool, true, false, not, ◌&&◌, ◌||◌, ◌==◌, nat_le, nat_lt, if◌then◌else◌, Some, None, List, [], ◌∷◌, length}
 use Rattle.std.specs.declared.option.Option.{Option}
 use Rattle.pv_types.specs.Ty.{Ty}
-use Rattle.pv_types.specs.Sorts.{is_character, is_composite, bare}
+use Rattle.pv_types.specs.Sorts.{is_character, is_composite, bare_type}
 use Rattle.pv_types.specs.SameTypes.{same_type}
 use Rattle.pv_types.specs.Layouts.{Part, Entry, layout_in}
 use Rattle.pv_types.specs.Known.{Known, tree, env}
@@ -19,7 +19,7 @@ permits_declared parts o want =
 
 -- 6.5p7: qualifiers aside, the type or its signed or unsigned counterpart (6.2.5p6)
 abbrev pub same_or_counterpart : Ty → Ty → Bool
-same_or_counterpart t u = same_type (bare t) (bare u) || are_counterparts (bare t) (bare u)
+same_or_counterpart t u = same_type (bare_type t) (bare_type u) || are_counterparts (bare_type t) (bare_type u)
 
 -- 6.5p6: a byte of an object without a declared type is marked by its last store: the number of the type that was stored, and
 -- which of that type's bytes it is. 6.5p7: a scalar of type t accepts the mark on its byte j where that byte of the type was

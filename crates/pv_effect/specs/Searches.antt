@@ -1,10 +1,10 @@
 -- A bridge: what a search for the scalars that a byte lies in asks, and what it comes to.
 use Rattle.std.specs.Prelude.{List, ℕ, ◌<◌, ◌≤◌, ◌^◌, ◌&&◌, Bool, true, IsTrue, length}
 use Rattle.pv_types.specs.Ty.{Ty}
-use Rattle.pv_types.specs.Layouts.{Layout, Part, repeated, layout_in, is_complete_in}
+use Rattle.pv_types.specs.Layouts.{Layout, Part, parts_of_elements, layout_in, is_complete_in}
 use Rattle.pv_types.specs.LayoutParts.{part_count, union_parts}
 use Rattle.pv_types.specs.Known.{Known, tree, env}
-use Rattle.pv_types.specs.Formed.{named}
+use Rattle.pv_types.specs.Formed.{named_members}
 use Rattle.pv_types.specs.Sorts.{is_scalar}
 use Rattle.pv_effect.specs.EffectiveType.{accepts, some_over}
 use Rattle.pv_effect.specs.declared.bytes.Sought.{Sought}
@@ -27,11 +27,11 @@ is_over_type m s b t = some_over (env m) (passes m s) b (layout_in (env m) (tree
 
 -- 6.5p6, p7, 6.7.2.1p16: whether it lies over this byte of a member of the union with the tag
 abbrev pub is_over_members : Known → Sought → (byte tag : ℕ) → Bool
-is_over_members m s b tag = some_over (env m) (passes m s) b (union_parts (env m) (named m tag))
+is_over_members m s b tag = some_over (env m) (passes m s) b (union_parts (env m) (named_members m tag))
 
 -- 6.2.5p20: the parts of n elements of this layout, one right behind the other
 abbrev pub element_parts : ℕ → Layout → List Part
-element_parts n l = repeated n l.size l.parts
+element_parts n l = parts_of_elements n l.size l.parts
 
 -- 6.5p7: what a search comes to, once what it goes on in is searched
 abbrev pub comes_to : (ℕ → Ty → Bool) → Known → Search → Bool

@@ -3,7 +3,7 @@ ghost use Rattle.std.specs.Prelude.{◌≡◌, ◌<◌, ◌≤◌, ◌^◌, ◌+
 ghost use Rattle.pv_types.specs.Ty.{Ty};
 ghost use Rattle.pv_types.specs.Qualifiers.{is_const};
 ghost use Rattle.pv_types.specs.Known.{tree, env};
-ghost use Rattle.pv_types.specs.Formed.{named, is_union_in, IsBuilt};
+ghost use Rattle.pv_types.specs.Formed.{named_members, is_union_in, IsBuilt};
 ghost use Rattle.pv_types.specs.Layouts.{layout_in, is_complete_in, look};
 ghost use Rattle.pv_types.specs.LayoutParts.{part_count, union_parts, struct_parts, or_none};
 ghost use Rattle.pv_layout.specs.Parts.{leaves};
@@ -140,7 +140,7 @@ fn in_structure(types: &Types, tag: u32, offset: u64) -> Search
     requires complete { IsTrue (is_some (look (env types.now) tag)) }
     requires structure { is_union_in types.now.done tag ≡ false }
     requires small { (or_none (look (env types.now) tag)).size ≤ 2 ^ 32 }
-    ensures value { (f : ℕ → Ty → Bool) → comes_to f types.now result ≡ some_over (env types.now) f offset (struct_parts (env types.now) (named types.now tag) 0) }
+    ensures value { (f : ℕ → Ty → Bool) → comes_to f types.now result ≡ some_over (env types.now) f offset (struct_parts (env types.now) (named_members types.now tag) 0) }
     ensures below { IsBelow types.now (part_count (or_none (look (env types.now) tag))) result }
 {
     match types.member_over(tag, offset) {
@@ -159,7 +159,7 @@ fn in_union(types: &Types, tag: u32, offset: u64, sought: Sought) -> Search
     requires complete { IsTrue (is_some (look (env types.now) tag)) }
     requires union { is_union_in types.now.done tag ≡ true }
     requires small { (or_none (look (env types.now) tag)).size ≤ 2 ^ 32 }
-    ensures value { comes_to (passes types.now sought) types.now result ≡ some_over (env types.now) (passes types.now sought) offset (union_parts (env types.now) (named types.now tag)) }
+    ensures value { comes_to (passes types.now sought) types.now result ≡ some_over (env types.now) (passes types.now sought) offset (union_parts (env types.now) (named_members types.now tag)) }
     ensures below { IsBelow types.now (part_count (or_none (look (env types.now) tag))) result }
 {
     let members = types.members(tag);

@@ -12,9 +12,9 @@ use Rattle.pv_types.specs.declared.terms.TypeId.{TypeId}
 use Rattle.pv_types.specs.Compatible.{are_compatible}
 use Rattle.pv_types.proofs.Compared.{alike_self}
 use Rattle.pv_types.specs.Known.{Known, tree, env}
-use Rattle.pv_types.specs.Layouts.{Part, repeated, is_complete_in}
+use Rattle.pv_types.specs.Layouts.{Part, parts_of_elements, is_complete_in}
 use Rattle.pv_layout.specs.Parts.{some_at, leaves, agrees}
-use Rattle.pv_types.specs.Sorts.{bare, is_scalar, is_character, is_scalar_in}
+use Rattle.pv_types.specs.Sorts.{bare_type, is_scalar, is_character, is_scalar_in}
 use Rattle.pv_layout.proofs.Ahead.{bare_size, bare_complete}
 use Rattle.pv_layout.proofs.PartLaws.{at_repeated, some_leaf}
 use Rattle.pv_inst.specs.declared.values.Instance.{Instance}
@@ -26,7 +26,7 @@ use Rattle.pv_inst.specs.Infos.{info_of}
 use Rattle.pv_object.specs.declared.values.Reach.{Reach}
 use Rattle.pv_world.specs.Worlds.{World}
 use Rattle.pv_world.specs.Objects.{owner_of}
-use Rattle.pv_typed.specs.Tables.{Stored, whole}
+use Rattle.pv_typed.specs.Tables.{Stored, whole_unit}
 use Rattle.pv_typed.specs.TypedUnits.{object_at}
 use Rattle.pv_eval.specs.States.{Setting}
 use Rattle.pv_eval.specs.Sizes.{setting_of, size_in}
@@ -39,9 +39,9 @@ abbrev told : Instance → Info
 told x = record { name = x.name; k = x.k; base = x.base; size = x.size; kind = x.kind; exposed = x.exposed }
 
 -- the type without its qualifiers
-module _ (m k : Known) (i j : ℕ) (same : k ≡ m) (is : tree k i ≡ bare (tree k j)) where
-  pub tree_bare : tree m i ≡ bare (tree m j)
-  tree_bare = subst (λ (z : Known). tree z i ≡ bare (tree z j)) same is
+module _ (m k : Known) (i j : ℕ) (same : k ≡ m) (is : tree k i ≡ bare_type (tree k j)) where
+  pub tree_bare : tree m i ≡ bare_type (tree m j)
+  tree_bare = subst (λ (z : Known). tree z i ≡ bare_type (tree z j)) same is
 
   pub complete_bare : IsTrue (is_complete_in (env m) (tree m j)) → IsTrue (is_complete_in (env m) (tree m i))
   complete_bare h = ap (is_complete_in (env m)) tree_bare ∙ bare_complete (env m) (tree m j) ∙ h
@@ -65,21 +65,21 @@ own-kind b kind.ULong = refl
 own-kind b kind.LLong = refl
 own-kind b kind.ULLong = refl
 
-pub whole_integer : (u : Stored) (o offset w : ℕ) (k : IntKind) → offset ≡ 0 → (object_at (whole u) o).t ≡ tree u.known w → tree u.known w ≡ IntTy k
+pub whole_integer : (u : Stored) (o offset w : ℕ) (k : IntKind) → offset ≡ 0 → (object_at (whole_unit u) o).t ≡ tree u.known w → tree u.known w ≡ IntTy k
     → permits_object (setting_of u) (type_by (setting_of u) (Some o)) offset (tree u.known w) ≡ true
 whole_integer u o offset w k zero same form =
     let b = setting_of u in
     let P : Ty → ℕ → Ty → Type 0 = λ t n want. permits_object b (if has_extent b t then Some t else None) n want ≡ true in
-    subst (λ (n : ℕ). P (object_at (whole u) o).t n (tree u.known w)) (sym zero)
+    subst (λ (n : ℕ). P (object_at (whole_unit u) o).t n (tree u.known w)) (sym zero)
     (subst (λ (t : Ty). P t 0 (tree u.known w)) (sym same)
     (subst (λ (t : Ty). P t 0 t) (sym form) (own-kind b k)))
 
 -- integer and pointer types have no qualifiers around them
-pub integer_bare : (m : Known) (w : ℕ) (k : IntKind) → tree m w ≡ IntTy k → bare (tree m w) ≡ tree m w
-integer_bare m w k form = ap bare form ∙ sym form
+pub integer_bare : (m : Known) (w : ℕ) (k : IntKind) → tree m w ≡ IntTy k → bare_type (tree m w) ≡ tree m w
+integer_bare m w k form = ap bare_type form ∙ sym form
 
-pub pointer_bare : (m : Known) (w : ℕ) (t : Ty) → tree m w ≡ PointerTo t → bare (tree m w) ≡ tree m w
-pointer_bare m w t form = ap bare form ∙ sym form
+pub pointer_bare : (m : Known) (w : ℕ) (t : Ty) → tree m w ≡ PointerTo t → bare_type (tree m w) ≡ tree m w
+pointer_bare m w t form = ap bare_type form ∙ sym form
 
 -- a type is compatible with itself
 pub compatible-self : (t : Ty) → are_compatible t t ≡ true
@@ -90,12 +90,12 @@ compatible-self t = search alike_self
 own-pointer : (b : Setting) (t : Ty) → permits_object b (if has_extent b (PointerTo t) then Some (PointerTo t) else None) 0 (PointerTo t) ≡ true
 own-pointer b t = ap (λ (c : Bool). (0 == 0 && (c || false)) || false) (compatible-self (PointerTo t))
 
-pub whole_pointer : (u : Stored) (o offset w : ℕ) (t : Ty) → offset ≡ 0 → (object_at (whole u) o).t ≡ tree u.known w → tree u.known w ≡ PointerTo t
+pub whole_pointer : (u : Stored) (o offset w : ℕ) (t : Ty) → offset ≡ 0 → (object_at (whole_unit u) o).t ≡ tree u.known w → tree u.known w ≡ PointerTo t
     → permits_object (setting_of u) (type_by (setting_of u) (Some o)) offset (tree u.known w) ≡ true
 whole_pointer u o offset w t zero same form =
     let b = setting_of u in
     let P : Ty → ℕ → Ty → Type 0 = λ s n want. permits_object b (if has_extent b s then Some s else None) n want ≡ true in
-    subst (λ (n : ℕ). P (object_at (whole u) o).t n (tree u.known w)) (sym zero)
+    subst (λ (n : ℕ). P (object_at (whole_unit u) o).t n (tree u.known w)) (sym zero)
     (subst (λ (s : Ty). P s 0 (tree u.known w)) (sym same)
     (subst (λ (s : Ty). P s 0 s) (sym form) (own-pointer b t)))
 
@@ -127,14 +127,14 @@ abbrev one_part : Ty → List Part
 one_part t = record { offset = 0; t = t } ∷ []
 
 abbrev array_parts : Ty → (n size : ℕ) → List Part
-array_parts t n s = record { offset = 0; t = ArrayOf t (Some n) } ∷ repeated n s (one_part t)
+array_parts t n s = record { offset = 0; t = ArrayOf t (Some n) } ∷ parts_of_elements n s (one_part t)
 
 element-leaf : (k : IntKind) (n s o : ℕ) → 0 < s → o % s ≡ 0 → o / s < n → some_at (agrees (IntTy k)) o (leaves (array_parts (IntTy k) n s)) ≡ true
 element-leaf k n s o some begins within =
     let g : Ty → Bool = λ t. is_scalar t && agrees (IntTy k) t in
     let one = one_part (IntTy k) in
     some_leaf (agrees (IntTy k)) o (array_parts (IntTy k) n s)
-    ∙ no-whole (0 == o) (some_at g o (repeated n s one))
+    ∙ no-whole (0 == o) (some_at g o (parts_of_elements n s one))
     ∙ at_repeated g s o one n some (some, tt)
     ∙ ap (λ b. b && some_at g (o % s) one) (lt-ltb (o / s) n within)
     ∙ ap (λ m. some_at g m one) begins
@@ -156,7 +156,7 @@ whole-element b k n s o size some few begins within most =
     ∙ true-or (is_character (IntTy k)) (some_at (agrees (IntTy k)) o (leaves (array_parts (IntTy k) n (width k / 8))))
     (subst (λ m. some_at (agrees (IntTy k)) o (leaves (array_parts (IntTy k) n m)) ≡ true) size (element-leaf k n s o some begins within))
 
-pub element_permitted : (u : Stored) (o offset w e : ℕ) (k : IntKind) (n s : ℕ) → (object_at (whole u) o).t ≡ ArrayOf (tree u.known e) (Some n) → e ≡ w → tree u.known w ≡ IntTy k → s ≡ width k / 8 → 1 ≤ s → s ≤ 8 → offset % s ≡ 0 → offset / s < n → n ≤ 2 ^ 29
+pub element_permitted : (u : Stored) (o offset w e : ℕ) (k : IntKind) (n s : ℕ) → (object_at (whole_unit u) o).t ≡ ArrayOf (tree u.known e) (Some n) → e ≡ w → tree u.known w ≡ IntTy k → s ≡ width k / 8 → 1 ≤ s → s ≤ 8 → offset % s ≡ 0 → offset / s < n → n ≤ 2 ^ 29
     → permits_object (setting_of u) (type_by (setting_of u) (Some o)) offset (tree u.known w) ≡ true
 element_permitted u o offset w e k n s same own form size some few begins within most =
     let b = setting_of u in
@@ -177,8 +177,8 @@ pub permits_kind : (b : Setting) (w : World) (l : Lvalue) (at : Reach) (writes :
 permits_kind b w l at writes k e = row_in b w l at writes (instance_at w.memory.table.instances at.inst) k e
 
 -- an object of an integer or pointer type without qualifiers, that is accessed as a whole, at that type
-own_scalar : (u : Stored) (o offset w : ℕ) (t : Ty) → t ≡ tree u.known w → is_scalar_in t ≡ true → offset ≡ 0 → (object_at (whole u) o).t ≡ tree u.known w
-    → permits_object (setting_of u) (type_by (setting_of u) (Some o)) offset (bare (tree u.known w)) ≡ true
+own_scalar : (u : Stored) (o offset w : ℕ) (t : Ty) → t ≡ tree u.known w → is_scalar_in t ≡ true → offset ≡ 0 → (object_at (whole_unit u) o).t ≡ tree u.known w
+    → permits_object (setting_of u) (type_by (setting_of u) (Some o)) offset (bare_type (tree u.known w)) ≡ true
 own_scalar u o offset w (IntTy k) e h zero same =
     subst (λ (q : Ty). permits_object (setting_of u) (type_by (setting_of u) (Some o)) offset q ≡ true) (sym (integer_bare u.known w k (sym e))) (whole_integer u o offset w k zero same (sym e))
 own_scalar u o offset w (PointerTo t) e h zero same =
@@ -190,10 +190,10 @@ own_scalar u o offset w (UnionTag n) e h zero same = absurd cc
 own_scalar u o offset w (FunctionTy t ts v) e h zero same = absurd cc
 own_scalar u o offset w (ConstOf t) e h zero same = absurd cc
 
-own_in : (u : Stored) (w : World) (o t : ℕ) (at : Reach) (writes : Bool) (k : Kind) → is_declared k ≡ true → owner_of w at.inst ≡ Some o → at.offset ≡ 0 → (object_at (whole u) o).t ≡ tree u.known t → is_scalar_in (tree u.known t) ≡ true
+own_in : (u : Stored) (w : World) (o t : ℕ) (at : Reach) (writes : Bool) (k : Kind) → is_declared k ≡ true → owner_of w at.inst ≡ Some o → at.offset ≡ 0 → (object_at (whole_unit u) o).t ≡ tree u.known t → is_scalar_in (tree u.known t) ≡ true
     → permits_in (setting_of u) w (lvalue (setting_of u) (tree u.known t)) at writes k ≡ true
 own_in u w o t at writes (Declared constant) d owner zero same scalar =
-    ap (λ (q : Option ℕ). permits_object (setting_of u) (type_by (setting_of u) q) at.offset (bare (tree u.known t))) owner ∙ own_scalar u o at.offset t (tree u.known t) refl scalar zero same
+    ap (λ (q : Option ℕ). permits_object (setting_of u) (type_by (setting_of u) q) at.offset (bare_type (tree u.known t))) owner ∙ own_scalar u o at.offset t (tree u.known t) refl scalar zero same
 own_in u w o t at writes Literal d owner zero same scalar = absurd cc
 own_in u w o t at writes Heap d owner zero same scalar = absurd cc
 own_in u w o t at writes Function d owner zero same scalar = absurd cc

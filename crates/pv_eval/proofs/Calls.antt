@@ -15,7 +15,7 @@ use Rattle.pv_seq.specs.Rivals.{top}
 use Rattle.pv_world.specs.Worlds.{Worth}
 use Rattle.pv_eval.specs.States.{Setting, State, then_do}
 use Rattle.pv_eval.specs.Sequenced.{operand}
-use Rattle.pv_eval.specs.Steps.{Calling, handed}
+use Rattle.pv_eval.specs.Steps.{Calling, accepted_value}
 use Rattle.pv_eval.specs.Evaluation.{ev, ev_call}
 use Rattle.std.proofs.Common.{Vec, Global}
 use Rattle.pv_world.specs.declared.got.Got.{Got}
@@ -64,17 +64,17 @@ module _ (b : Setting) (call : Calling) (u : Stored) (n : NodeId) (line f i : �
       ap (λ k. operand (ev b call (expression_at u (slice_index_or ids k none))) j s (frame_after b call u (record { node = n; stage = Argument got }))) count
       ∙ ap (λ z. operand (ev b call (expression_at u (slice_index_or z m none))) j s (frame_after b call u (record { node = n; stage = Argument got }))) same
       ∙ ap (λ g. operand (ev b call (expression_at u (slice_index_or (list_at u l) m none))) j s (stage_after b call t k g (Argument got))) form
-      ∙ ap (λ x. operand (ev b call (expression_at u (slice_index_or (list_at u l) m none))) j s (λ j v s. then_do (handed b x v s) (λ v s. ev_call b call k f (map worth_of got.items ++ v ∷ []) (arguments_from xs (m + 1)) j s))) (argument-is (nodes u) (list_at u l) m lt')
-      ∙ ap (λ q. operand (ev b call (expression_at u (slice_index_or (list_at u l) m none))) j s (λ j v s. then_do (handed b (expression_at u (slice_index_or (list_at u l) m none)) v s) (λ v s. ev_call b call k f (map worth_of got.items ++ v ∷ []) (arguments_from xs q) j s))) (sym one)
+      ∙ ap (λ x. operand (ev b call (expression_at u (slice_index_or (list_at u l) m none))) j s (λ j v s. then_do (accepted_value b x v s) (λ v s. ev_call b call k f (map worth_of got.items ++ v ∷ []) (arguments_from xs (m + 1)) j s))) (argument-is (nodes u) (list_at u l) m lt')
+      ∙ ap (λ q. operand (ev b call (expression_at u (slice_index_or (list_at u l) m none))) j s (λ j v s. then_do (accepted_value b (expression_at u (slice_index_or (list_at u l) m none)) v s) (λ v s. ev_call b call k f (map worth_of got.items ++ v ∷ []) (arguments_from xs q) j s))) (sym one)
       ∙ ap (λ z. ev_call b call k f (map worth_of got.items) z j s) (sym (from-more (nodes u) (list_at u l) m lt'))
       ∙ ap (λ k. ev_call b call k f (map worth_of got.items) (arguments_from xs m) j s) (sym is)
 
   pub next-none : (j : Open) (s : State) → length ids ≤ i → ev_call b call line f (map worth_of got.items) NoArguments j s ≡ ev_call b call line f (map worth_of got.items) (arguments_from xs (length got.items)) j s
   next-none j s h = ap (λ z. ev_call b call line f (map worth_of got.items) z j s) (sym (from-none (nodes u) (list_at u l) (length got.items) (subst (λ z. length z ≤ length got.items) same (subst (λ k. length ids ≤ k) count h))))
 
-  pub argument-led : (t : Ty) (x : Typed) (v : Worth) (s : State) (r : Result Move Failure) (js : List Open) (s' : State) → x ≡ typed.Call f l → i < length ids → Led b call u (then_do (handed b (expression_at u (slice_index_or ids i none)) v s) (λ v s. ev_call b call line f (map worth_of got.items ++ v ∷ []) (arguments_from xs (length got.items + 1)) (top js) s)) r js s' → Led b call u (argument_after b call t line (form_in u.lists (nodes u) x) (length got.items) (map worth_of got.items) (top js) v s) r js s'
+  pub argument-led : (t : Ty) (x : Typed) (v : Worth) (s : State) (r : Result Move Failure) (js : List Open) (s' : State) → x ≡ typed.Call f l → i < length ids → Led b call u (then_do (accepted_value b (expression_at u (slice_index_or ids i none)) v s) (λ v s. ev_call b call line f (map worth_of got.items ++ v ∷ []) (arguments_from xs (length got.items + 1)) (top js) s)) r js s' → Led b call u (argument_after b call t line (form_in u.lists (nodes u) x) (length got.items) (map worth_of got.items) (top js) v s) r js s'
   argument-led t x v s r js s' is lt h =
       let lt' : length got.items < length (list_at u l) = subst (λ z. length got.items < length z) same (subst (λ k. k < length ids) count lt) in
       let a : argument_at xs (length got.items) ≡ expression_at u (slice_index_or ids i none) = argument-is (nodes u) (list_at u l) (length got.items) lt' ∙ ap (λ z. expression_at u (slice_index_or z (length got.items) none)) (sym same) ∙ ap (λ k. expression_at u (slice_index_or ids k none)) (sym count) in
       subst (λ y. Led b call u (argument_after b call t line (form_in u.lists (nodes u) y) (length got.items) (map worth_of got.items) (top js) v s) r js s') (sym is)
-      (subst (λ y. Led b call u (then_do (handed b y v s) (λ v s. ev_call b call line f (map worth_of got.items ++ v ∷ []) (arguments_from xs (length got.items + 1)) (top js) s)) r js s') (sym a) h)
+      (subst (λ y. Led b call u (then_do (accepted_value b y v s) (λ v s. ev_call b call line f (map worth_of got.items ++ v ∷ []) (arguments_from xs (length got.items + 1)) (top js) s)) r js s') (sym a) h)

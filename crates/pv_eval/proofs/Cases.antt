@@ -9,15 +9,15 @@ use Rattle.pv_typed.specs.declared.nodes.Typed.TheVariants as typed
 use Rattle.pv_typed.specs.TypedTree.{TypedTree, Node, type_of, line_of, form_of}
 use Rattle.pv_typed.specs.Trees.{takes_turn}
 use Rattle.pv_typed.specs.Nodes.{Tree, form_in, expression_in}
-use Rattle.pv_typed.specs.Tables.{Stored, nodes, whole}
+use Rattle.pv_typed.specs.Tables.{Stored, nodes, whole_unit}
 use Rattle.pv_typed.specs.NodeTrees.{expression_at, IsExpression}
 use Rattle.pv_typed.specs.Children.{HasKind, HasOperands}
 use Rattle.pv_eval.specs.declared.frames.Stage.{Stage}
-use Rattle.pv_seq.specs.Sequencing.{Access, Open, opened, noted, joined}
+use Rattle.pv_seq.specs.Sequencing.{Access, Open, open_against, with_access, with_operand}
 use Rattle.pv_seq.specs.Rivals.{top, below}
 use Rattle.pv_world.specs.Worlds.{Worth}
 use Rattle.pv_eval.specs.States.{Setting, State, Res, Gives, Stops, Turns, then_do, spend}
-use Rattle.pv_eval.specs.Sequenced.{Given, done, operand}
+use Rattle.pv_eval.specs.Sequenced.{Given, node_value, operand}
 use Rattle.pv_eval.specs.Steps.{Calling, takes, tick_if}
 use Rattle.pv_eval.specs.Evaluation.{ev, ev_form}
 use Rattle.pv_world.specs.declared.got.Got.{Got}
@@ -35,13 +35,13 @@ use Rattle.std.proofs.lemmas.List.{reverse-append}
 use Rattle.pv_eval.specs.Stack.{rest}
 use Rattle.pv_eval.specs.declared.frames.Now.{Now}
 use Rattle.pv_eval.specs.declared.frames.Now.TheVariants.{Value, Due}
-use Rattle.pv_eval.specs.Ahead.{ahead, zip, stack, Kept, means, Led, first_operand_of, second_operand_of, takes_of, given, IsChoice}
+use Rattle.pv_eval.specs.Ahead.{ahead, zip, stack, Kept, means, Led, first_operand_of, second_operand_of, takes_of, move_of, IsChoice}
 use Rattle.pv_eval.specs.Operations.{Tests, act}
 
 -- a node with operands begins with the first one
 module _ (b : Setting) (call : Calling) (t : Ty) (line : ℕ) (ls : List (List NodeId)) (ts : List Tree) (fs : List Access) (s : State) where
   abbrev Begins : Typed → NodeId → Type 0
-  Begins x a = ev_form b call t line (form_in ls ts x) fs s ≡ operand (ev b call (expression_in ts a)) (opened fs) s (first_after b call t line (form_in ls ts x))
+  Begins x a = ev_form b call t line (form_in ls ts x) fs s ≡ operand (ev b call (expression_in ts a)) (open_against fs) s (first_after b call t line (form_in ls ts x))
 
   abbrev BeginsIf : Typed → Option NodeId → Type 0
   BeginsIf x None = Unit {0}
@@ -121,10 +121,10 @@ module _ (b : Setting) (call : Calling) (fs : List Access) where
   ev-no-turn x s h = ev-node x s ∙ ap (λ k. tick_if k b s (ev_form b call (type_of x) (line_of x) (form_of x) fs)) h
 
 -- an operation whose value is the node's
-pub came-given : (b : Setting) (call : Calling) (u : Stored) (r : Result Got Failure) (res : Res Worth) (js : List Open) (s : State) → Came res r s → Led b call u (then_do res (done (top js))) (given r) js s
-came-given b call u (Ok v) res js s h = ap (λ z. then_do z (done (top js))) h
+pub came-given : (b : Setting) (call : Calling) (u : Stored) (r : Result Got Failure) (res : Res Worth) (js : List Open) (s : State) → Came res r s → Led b call u (then_do res (node_value (top js))) (move_of r) js s
+came-given b call u (Ok v) res js s h = ap (λ z. then_do z (node_value (top js))) h
 came-given b call u (Err failure.NoMemory) res js s h = tt
-came-given b call u (Err (failure.Stop y line)) res js s h = ap (λ z. then_do z (done (top js))) h
+came-given b call u (Err (failure.Stop y line)) res js s h = ap (λ z. then_do z (node_value (top js))) h
 
 -- what stays while an operation is made
 pub setting-ticked : (b : Setting) (u : Stored) (m n : Moment) → n ≡ record m { taken = m.taken + 1 } → IsSetting b u m → IsSetting b u n
@@ -148,16 +148,16 @@ stays_itself m = record { total = λ k h. h; taken = refl; sides = refl }
 
 -- the first operation of a node
 module _ (b : Setting) (call : Calling) (u : Stored) (n : NodeId) (x : Typed) (fs : List Access) (s t : State) (form : form_of (expression_at u n) ≡ form_in u.lists (nodes u) x) where
-  waits : (a : NodeId) → first_operand_of x ≡ Some a → ev_form b call (type_of (expression_at u n)) (line_of (expression_at u n)) (form_of (expression_at u n)) fs t ≡ operand (ev b call (expression_at u a)) (opened fs) t (frame_after b call u (record { node = n; stage = stage.First }))
+  waits : (a : NodeId) → first_operand_of x ≡ Some a → ev_form b call (type_of (expression_at u n)) (line_of (expression_at u n)) (form_of (expression_at u n)) fs t ≡ operand (ev b call (expression_at u a)) (open_against fs) t (frame_after b call u (record { node = n; stage = stage.First }))
   unfolding frame_after
   waits a h =
       let p : Ty = type_of (expression_at u n) in
       let l : ℕ = line_of (expression_at u n) in
       ap (λ f. ev_form b call p l f fs t) form
       ∙ begins b call p l u.lists (nodes u) fs t x a h
-      ∙ ap (λ f. operand (ev b call (expression_at u a)) (opened fs) t (first_after b call p l f)) (sym form)
+      ∙ ap (λ f. operand (ev b call (expression_at u a)) (open_against fs) t (first_after b call p l f)) (sym form)
 
-  pub begun-operand : (a : NodeId) → first_operand_of x ≡ Some a → takes (takes_turn (expression_at u n)) (form_of (expression_at u n)) ≡ true → s.taken < b.bound → t ≡ spend s → ev b call (expression_at u n) fs s ≡ operand (ev b call (expression_at u a)) (opened fs) t (frame_after b call u (record { node = n; stage = stage.First }))
+  pub begun-operand : (a : NodeId) → first_operand_of x ≡ Some a → takes (takes_turn (expression_at u n)) (form_of (expression_at u n)) ≡ true → s.taken < b.bound → t ≡ spend s → ev b call (expression_at u n) fs s ≡ operand (ev b call (expression_at u a)) (open_against fs) t (frame_after b call u (record { node = n; stage = stage.First }))
   begun-operand a h k lt e =
       ev-turn b call fs (expression_at u n) s k lt
       ∙ ap (ev_form b call (type_of (expression_at u n)) (line_of (expression_at u n)) (form_of (expression_at u n)) fs) (sym e)
@@ -170,7 +170,7 @@ module _ (b : Setting) (call : Calling) (u : Stored) (n : NodeId) (x : Typed) (f
       ∙ ap (λ f. ev_form b call (type_of (expression_at u n)) (line_of (expression_at u n)) f fs t) form
 
   -- a node without a turn of its own
-  pub waits-at-once : (a : NodeId) → first_operand_of x ≡ Some a → takes (takes_turn (expression_at u n)) (form_of (expression_at u n)) ≡ false → ev b call (expression_at u n) fs t ≡ operand (ev b call (expression_at u a)) (opened fs) t (frame_after b call u (record { node = n; stage = stage.First }))
+  pub waits-at-once : (a : NodeId) → first_operand_of x ≡ Some a → takes (takes_turn (expression_at u n)) (form_of (expression_at u n)) ≡ false → ev b call (expression_at u n) fs t ≡ operand (ev b call (expression_at u a)) (open_against fs) t (frame_after b call u (record { node = n; stage = stage.First }))
   waits-at-once a h k = ev-no-turn b call fs (expression_at u n) t k ∙ waits a h
 
 pub led-from : (b : Setting) (call : Calling) (u : Stored) (w w' : Res Given) (r : Result Move Failure) (js : List Open) (s : State) → w ≡ w' → Led b call u w' r js s → Led b call u w r js s
@@ -217,23 +217,23 @@ if-some None P h = tt
 if-some (Some a) P h = h a refl
 
 -- a read or a write of the node's own, and then its value
-pub access-given : (b : Setting) (call : Calling) (u : Stored) (m : Moment) (a : Setting → Access) (r : Result Got Failure) (res : Res Worth) (old new : List Open) (s : State) → IsSetting b u m → Came res r s → Noted a r old new u m → Led b call u (then_do res (λ v s. done (noted (a b) (top old)) v s)) (given r) new s
-access-given b call u m a (Ok v) res old new s hs h k = ap (λ z. then_do z (λ v s. done (noted (a b) (top old)) v s)) h ∙ ap (λ js. done (top js) (worth_of v) s) (sym (k b hs))
+pub access-given : (b : Setting) (call : Calling) (u : Stored) (m : Moment) (a : Setting → Access) (r : Result Got Failure) (res : Res Worth) (old new : List Open) (s : State) → IsSetting b u m → Came res r s → Noted a r old new u m → Led b call u (then_do res (λ v s. node_value (with_access (a b) (top old)) v s)) (move_of r) new s
+access-given b call u m a (Ok v) res old new s hs h k = ap (λ z. then_do z (λ v s. node_value (with_access (a b) (top old)) v s)) h ∙ ap (λ js. node_value (top js) (worth_of v) s) (sym (k b hs))
 access-given b call u m a (Err failure.NoMemory) res old new s hs h k = tt
-access-given b call u m a (Err (failure.Stop y line)) res old new s hs h k = ap (λ z. then_do z (λ v s. done (noted (a b) (top old)) v s)) h
+access-given b call u m a (Err (failure.Stop y line)) res old new s hs h k = ap (λ z. then_do z (λ v s. node_value (with_access (a b) (top old)) v s)) h
 
 -- the setting of a unit
 abbrev some_setting : Stored → Moment → Setting
-some_setting u m = record { unit = whole u; types = u.known; bound = 0; sides = m.sides; zap = true }
+some_setting u m = record { unit = whole_unit u; types = u.known; bound = 0; sides = m.sides; zap = true }
 
 some-is : (u : Stored) (m : Moment) → IsSetting (some_setting u m) u m
 some-is u m = record { unit = refl; types = refl; sides = refl }
 
-pub access-below : (u : Stored) (m : Moment) (a : Setting → Access) (r : Result Got Failure) (old new : List Open) → Noted a r old new u m → IfOk (given r) (λ x. below new ≡ below old)
+pub access-below : (u : Stored) (m : Moment) (a : Setting → Access) (r : Result Got Failure) (old new : List Open) → Noted a r old new u m → IfOk (move_of r) (λ x. below new ≡ below old)
 access-below u m a (Ok v) old new k = ap below (k (some_setting u m) (some-is u m))
 access-below u m a (Err e) old new k = tt
 
-pub access-some : (u : Stored) (m : Moment) (a : Setting → Access) (r : Result Got Failure) (old new : List Open) → Noted a r old new u m → IfOk (given r) (λ x. 1 ≤ length new)
+pub access-some : (u : Stored) (m : Moment) (a : Setting → Access) (r : Result Got Failure) (old new : List Open) → Noted a r old new u m → IfOk (move_of r) (λ x. 1 ≤ length new)
 access-some u m a (Ok v) old new k = let e = ap length (k (some_setting u m) (some-is u m)) in omega (arith, e)
 access-some u m a (Err e) old new k = tt
 
@@ -287,7 +287,7 @@ resumed b call u f x g j v s r js t form e h =
     (subst (λ g. Led b call u (stage_after b call (type_of (expression_at u f.node)) (line_of (expression_at u f.node)) (form_in u.lists (nodes u) x) g j v s) r js t) (sym e) h)
 
 -- after a node: what its frame does
-pub popped : (b : Setting) (call : Calling) (u : Stored) (items rests : List Frame) (f : Frame) (js : List Open) (v : Got) (s : State) → items ≡ rests ++ f ∷ [] → length js ≡ length items + 1 → ahead b call u items js (Value v) s ≡ then_do (frame_after b call u f (joined (top (below js)) (top js)) (worth_of v) s) (rest (after b call u) (stack rests (below (below js))))
+pub popped : (b : Setting) (call : Calling) (u : Stored) (items rests : List Frame) (f : Frame) (js : List Open) (v : Got) (s : State) → items ≡ rests ++ f ∷ [] → length js ≡ length items + 1 → ahead b call u items js (Value v) s ≡ then_do (frame_after b call u f (with_operand (top (below js)) (top js)) (worth_of v) s) (rest (after b call u) (stack rests (below (below js))))
 popped b call u items rests f [] v s e h = absurd (omega arith)
 popped b call u items rests f (j ∷ []) v s e h = absurd (omega (arith, ap length e, length-append rests (f ∷ [])))
 popped b call u items rests f (j ∷ (k ∷ ks)) v s e h =
@@ -301,7 +301,7 @@ pub led-stops : (b : Setting) (call : Calling) (u : Stored) (w : Res Given) (k :
 led-stops b call u w k failure.NoMemory ks js fs s h = tt
 led-stops b call u w k (failure.Stop y line) ks js fs s h = ap (λ z. then_do z k) h
 
-module _ (b : Setting) (call : Calling) (u : Stored) (items rests : List Frame) (f : Frame) (js leave : List Open) (v : Got) (s : State) (e : items ≡ rests ++ f ∷ []) (h : length js ≡ length items + 1) (l : leave ≡ joined (top (below js)) (top js) ∷ below (below js)) where
+module _ (b : Setting) (call : Calling) (u : Stored) (items rests : List Frame) (f : Frame) (js leave : List Open) (v : Got) (s : State) (e : items ≡ rests ++ f ∷ []) (h : length js ≡ length items + 1) (l : leave ≡ with_operand (top (below js)) (top js) ∷ below (below js)) where
   left : ahead b call u items js (Value v) s ≡ then_do (frame_after b call u f (top leave) (worth_of v) s) (rest (after b call u) (stack rests (below leave)))
   left =
       popped b call u items rests f js v s e h
@@ -328,7 +328,7 @@ below-length : (js : List Open) → length (below js) ≡ length js - 1
 below-length [] = refl
 below-length (j ∷ js) = omega arith
 
-pub matched-after : (items rests : List Frame) (f : Frame) (js leave jr : List Open) → items ≡ rests ++ f ∷ [] → length js ≡ length items + 1 → leave ≡ joined (top (below js)) (top js) ∷ below (below js) → below jr ≡ below leave → 1 ≤ length jr → length jr ≡ length rests + 1
+pub matched-after : (items rests : List Frame) (f : Frame) (js leave jr : List Open) → items ≡ rests ++ f ∷ [] → length js ≡ length items + 1 → leave ≡ with_operand (top (below js)) (top js) ∷ below (below js) → below jr ≡ below leave → 1 ≤ length jr → length jr ≡ length rests + 1
 matched-after items rests f js leave jr e h l k n =
     let a = some-length jr n in
     let c = ap length k in
@@ -340,8 +340,8 @@ matched-after items rests f js leave jr e h l k n =
     omega (arith, a, c, d, g, i, m, o, h)
 
 -- before a node
-module _ (b : Setting) (call : Calling) (u : Stored) (fs : List Frame) (js : List Open) (n : NodeId) (s : State) (fresh : top js ≡ opened (top js).foes) where
-  pub begun-on : (led : Move) (t : State) → ev b call (expression_at u n) (top js).foes s ≡ means b call u led (opened (top js).foes) t → ahead b call u fs js (Due n) s ≡ then_do (means b call u led (top js) t) (rest (after b call u) (stack fs (below js)))
+module _ (b : Setting) (call : Calling) (u : Stored) (fs : List Frame) (js : List Open) (n : NodeId) (s : State) (fresh : top js ≡ open_against (top js).foes) where
+  pub begun-on : (led : Move) (t : State) → ev b call (expression_at u n) (top js).foes s ≡ means b call u led (open_against (top js).foes) t → ahead b call u fs js (Due n) s ≡ then_do (means b call u led (top js) t) (rest (after b call u) (stack fs (below js)))
   begun-on led t m =
       ap (λ z. then_do z (rest (after b call u) (stack fs (below js)))) (m ∙ ap (λ j. means b call u led j t) (sym fresh))
 

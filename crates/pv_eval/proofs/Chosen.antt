@@ -3,18 +3,18 @@ use Rattle.std.proofs.Common.{◌≡◌, ℕ, true, false, List, [], ◌++◌, l
 use Rattle.std.specs.Prelude.{Result, Err}
 use Rattle.pv_types.specs.Known.{Known}
 use Rattle.pv_typed.specs.TypedUnits.{WholeUnit}
-use Rattle.pv_typed.specs.Tables.{Stored, whole}
+use Rattle.pv_typed.specs.Tables.{Stored, whole_unit}
 use Rattle.pv_watch.specs.declared.event.What.{What}
 use Rattle.pv_world.specs.declared.got.Failure.{Failure}
 use Rattle.pv_world.specs.Worlds.{Worth, World}
 use Rattle.pv_world.specs.Worths.{missing_value}
 use Rattle.pv_world.specs.Telling.{fault_of, verdict_of}
 use Rattle.pv_world.specs.Doing.{Done}
-use Rattle.pv_world.specs.Coming.{Did, Came, Faulted, seen}
+use Rattle.pv_world.specs.Coming.{Did, Came, Faulted, coming_of}
 use Rattle.pv_world.proofs.Guards as looked
 use Rattle.pv_eval.specs.declared.marked.Marked.{Marked}
 use Rattle.pv_eval.specs.States.{Setting, Res}
-use Rattle.pv_eval.specs.Acting.{acted}
+use Rattle.pv_eval.specs.Acting.{after_doing}
 use Rattle.pv_eval.specs.Moments.{Moment, Follows, IsSetting, state_of}
 use Rattle.pv_eval.specs.Operations as op
 use Rattle.pv_eval.specs.Operations.{Op, suits, works, does, act}
@@ -65,24 +65,24 @@ does_plain b (op.PutsText o offset size l) w = refl
 does_plain b (op.Asks f args) w = refl
 
 -- so it is told by the tables of the unit
-pub does_in : (b : Setting) (u : Stored) (o : Setting → Op) (w : World) → b.unit ≡ whole u → b.types ≡ u.known → o b ≡ o (plain b)
+pub does_in : (b : Setting) (u : Stored) (o : Setting → Op) (w : World) → b.unit ≡ whole_unit u → b.types ≡ u.known → o b ≡ o (plain b)
     → does b (o b) w ≡ does (setting_of u) (o (setting_of u)) w
 does_in b u o w unit types same =
     let at : WholeUnit → Known → Setting = λ U K. record { unit = U; types = K; bound = 0; sides = None; zap = true } in
     ap (λ x. does b x w) same
     ∙ does_plain b (o (plain b)) w
     ∙ ap (λ (U : WholeUnit). does (at U b.types) (o (at U b.types)) w) unit
-    ∙ ap (λ (K : Known). does (at (whole u) K) (o (at (whole u) K)) w) types
+    ∙ ap (λ (K : Known). does (at (whole_unit u) K) (o (at (whole_unit u) K)) w) types
 
-pub did_in : {A : Type 0} (give : A → Worth) (b : Setting) (u : Stored) (o : Setting → Op) (r : Result A Failure) (w v : World) (es fs : List What) → b.unit ≡ whole u → b.types ≡ u.known → o b ≡ o (plain b)
+pub did_in : {A : Type 0} (give : A → Worth) (b : Setting) (u : Stored) (o : Setting → Op) (r : Result A Failure) (w v : World) (es fs : List What) → b.unit ≡ whole_unit u → b.types ≡ u.known → o b ≡ o (plain b)
     → Did give (does (setting_of u) (o (setting_of u))) r w v es fs → Did give (does b (o b)) r w v es fs
-did_in give b u o r w v es fs unit types same h = subst (λ d. Came give r v fs (seen es w d)) (sym (does_in b u o w unit types same)) h
+did_in give b u o r w v es fs unit types same h = subst (λ d. Came give r v fs (coming_of es w d)) (sym (does_in b u o w unit types same)) h
 
 -- an operation on the world, and its closing
 module _ {A : Type 0} (give : A → Worth) (C : Res Worth → Type 0) (b : Setting) (u : Stored) (o p : Op) (line : ℕ) (r : Result A Failure) (inner old : Moment) (w : World) (before told slice : List What) (out : List ℕ) (es : List Marked) where
   closing_inner : IsSetting b u inner → Follows inner (length out) → before ≡ [] → slice ≡ told → p ≡ o
       → Did give (does b p) r inner.world w before told
-      → ((op : World → Done) → b.sides ≡ inner.sides → Follows inner (length out) → Did give op r inner.world w [] slice → C (acted b line (op inner.world) (state_of inner out es)))
+      → ((op : World → Done) → b.sides ≡ inner.sides → Follows inner (length out) → Did give op r inner.world w [] slice → C (after_doing b line (op inner.world) (state_of inner out es)))
       → C (act b line o (state_of inner out es))
   closing_inner hs hf e f g did k =
       let did1 = subst (λ x. Did give (does b p) r inner.world w x told) e did in
@@ -91,7 +91,7 @@ module _ {A : Type 0} (give : A → Worth) (C : Res Worth → Type 0) (b : Setti
 
   pub closing : inner ≡ old → IsSetting b u old → Follows old (length out) → before ≡ [] → slice ≡ told → p ≡ o
       → Did give (does b p) r inner.world w before told
-      → ((op : World → Done) → b.sides ≡ inner.sides → Follows inner (length out) → Did give op r inner.world w [] slice → C (acted b line (op inner.world) (state_of inner out es)))
+      → ((op : World → Done) → b.sides ≡ inner.sides → Follows inner (length out) → Did give op r inner.world w [] slice → C (after_doing b line (op inner.world) (state_of inner out es)))
       → C (act b line o (state_of old out es))
   closing is hs hf e f g did k =
       subst (λ (m : Moment). C (act b line o (state_of m out es))) is

@@ -14,7 +14,7 @@ use Rattle.pv_typed.specs.Nodes.{Tree, form_in}
 use Rattle.pv_seq.specs.Sequencing.{Open}
 use Rattle.pv_world.specs.Worlds.{Worth}
 use Rattle.pv_eval.specs.States.{Setting, State}
-use Rattle.pv_eval.specs.Sequenced.{done}
+use Rattle.pv_eval.specs.Sequenced.{node_value}
 use Rattle.pv_eval.specs.Steps.{Calling}
 use Rattle.pv_eval.specs.Frames.{first_after, second_after}
 use Rattle.pv_eval.specs.Ahead.{second_operand_of}
@@ -39,7 +39,7 @@ pub record IsIdle (x : Typed) : Type 0 where
   pub not-CallPointer : (a : NodeId) (l : ListId) → x ≢ typed.CallPointer a l
 
 module _ (b : Setting) (call : Calling) (t : Ty) (line : ℕ) (ls : List (List NodeId)) (ts : List Tree) (j : Open) (v : Worth) (s : State) where
-  pub given-alone : (x : Typed) → second_operand_of x ≡ None → IsIdle x → first_after b call t line (form_in ls ts x) j v s ≡ done j v s
+  pub given-alone : (x : Typed) → second_operand_of x ≡ None → IsIdle x → first_after b call t line (form_in ls ts x) j v s ≡ node_value j v s
   given-alone (typed.Read a) e h = absurd (h.not-Read a refl)
   given-alone (typed.Indirection a) e h = absurd (h.not-Indirection a refl)
   given-alone (typed.Member a k) e h = absurd (h.not-Member a k refl)
@@ -86,7 +86,7 @@ pub record HasOne (x : Typed) : Type 0 where
   pub not-Assign : (a d : NodeId) → x ≢ typed.Assign a d
 
 module _ (b : Setting) (call : Calling) (t : Ty) (line : ℕ) (ls : List (List NodeId)) (ts : List Tree) (v w : Worth) (j : Open) (s : State) where
-  pub second-alone : (x : Typed) → HasOne x → second_after b call t line (form_in ls ts x) v j w s ≡ done j w s
+  pub second-alone : (x : Typed) → HasOne x → second_after b call t line (form_in ls ts x) v j w s ≡ node_value j w s
   second-alone (typed.Subscript a d) h = absurd (h.not-Subscript a d refl)
   second-alone (typed.Arithmetic o a d) h = absurd (h.not-Arithmetic o a d refl)
   second-alone (typed.PointerSum g a d) h = absurd (h.not-PointerSum g a d refl)

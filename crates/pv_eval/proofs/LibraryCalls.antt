@@ -20,7 +20,7 @@ use Rattle.pv_world.specs.Coming.{worth_of}
 use Rattle.pv_eval.specs.States.{Setting, State, then_do}
 use Rattle.pv_eval.specs.Sequenced.{operand}
 use Rattle.pv_eval.specs.Arguments.{argument}
-use Rattle.pv_eval.specs.Steps.{Calling, handed}
+use Rattle.pv_eval.specs.Steps.{Calling, accepted_value}
 use Rattle.pv_eval.specs.Evaluation.{ev, ev_ask}
 use Rattle.pv_eval.specs.declared.failure.Failure.{Failure}
 use Rattle.pv_eval.specs.declared.frames.Move.{Move}
@@ -73,8 +73,8 @@ module _ (b : Setting) (call : Calling) (u : Stored) (n : NodeId) (line i : ℕ)
       let k : ℕ = line_of (expression_at u n) in
       ap (λ x. operand (ev b call x) j s (frame_after b call u (record { node = n; stage = Argument got }))) (sym (at lt))
       ∙ ap (λ g. operand (ev b call (argument_at xs m)) j s (stage_after b call t k g (Argument got))) form
-      ∙ ap (λ q. operand (ev b call (argument_at xs m)) j s (λ j v s. then_do (handed b (argument_at xs m) v s) (λ v s. ev_ask b call k f (asked_with xs gots ++ argument (argument_at xs m) v ∷ []) (arguments_from xs q) j s))) (sym one)
-      ∙ ap (λ x. operand (ev b call x) j s (λ j v s. then_do (handed b x v s) (λ v s. ev_ask b call k f (asked_with xs gots ++ argument x v ∷ []) (arguments_from xs (suc m)) j s))) (argument-is (nodes u) (list_at u l) m (within lt))
+      ∙ ap (λ q. operand (ev b call (argument_at xs m)) j s (λ j v s. then_do (accepted_value b (argument_at xs m) v s) (λ v s. ev_ask b call k f (asked_with xs gots ++ argument (argument_at xs m) v ∷ []) (arguments_from xs q) j s))) (sym one)
+      ∙ ap (λ x. operand (ev b call x) j s (λ j v s. then_do (accepted_value b x v s) (λ v s. ev_ask b call k f (asked_with xs gots ++ argument x v ∷ []) (arguments_from xs (suc m)) j s))) (argument-is (nodes u) (list_at u l) m (within lt))
       ∙ ap (λ z. ev_ask b call k f (asked_with xs gots) z j s) (sym (from-more (nodes u) (list_at u l) m (within lt)))
       ∙ ap (λ k. ev_ask b call k f (asked_with xs gots) (arguments_from xs m) j s) (sym is)
 
@@ -90,10 +90,10 @@ module _ (b : Setting) (call : Calling) (u : Stored) (n : NodeId) (line i : ℕ)
       ∙ ap (asked_with xs) (sym (ap (map worth_of) e ∙ map-last got.items v))
 
   -- with the value of an argument
-  pub asked-led : (t : Ty) (x : Typed) (v : Worth) (s : State) (r : Result Move Failure) (js : List Open) (j : Open) (s' : State) → x ≡ typed.LibraryCall f l → i < length ids → Led b call u (then_do (handed b (expression_at u (slice_index_or ids i none)) v s) (λ v s. ev_ask b call line f (asked_with xs gots ++ argument (expression_at u (slice_index_or ids i none)) v ∷ []) (arguments_from xs (length got.items + 1)) j s)) r js s' → Led b call u (argument_after b call t line (form_in u.lists (nodes u) x) (length got.items) gots j v s) r js s'
+  pub asked-led : (t : Ty) (x : Typed) (v : Worth) (s : State) (r : Result Move Failure) (js : List Open) (j : Open) (s' : State) → x ≡ typed.LibraryCall f l → i < length ids → Led b call u (then_do (accepted_value b (expression_at u (slice_index_or ids i none)) v s) (λ v s. ev_ask b call line f (asked_with xs gots ++ argument (expression_at u (slice_index_or ids i none)) v ∷ []) (arguments_from xs (length got.items + 1)) j s)) r js s' → Led b call u (argument_after b call t line (form_in u.lists (nodes u) x) (length got.items) gots j v s) r js s'
   asked-led t x v s r js j s' is lt h =
       subst (λ y. Led b call u (argument_after b call t line (form_in u.lists (nodes u) y) (length got.items) gots j v s) r js s') (sym is)
-      (subst (λ y. Led b call u (then_do (handed b y v s) (λ v s. ev_ask b call line f (asked_with xs gots ++ argument y v ∷ []) (arguments_from xs (length got.items + 1)) j s)) r js s') (sym (at lt)) h)
+      (subst (λ y. Led b call u (then_do (accepted_value b y v s) (λ v s. ev_ask b call line f (asked_with xs gots ++ argument y v ∷ []) (arguments_from xs (length got.items + 1)) j s)) r js s') (sym (at lt)) h)
 
 each-at : {A : Type 0} (P : A → Type 0) (zs : List A) (i : ℕ) (d : A) → Each P zs → i < length zs → P (slice_index_or zs i d)
 each-at P [] i d h lt = absurd (omega (arith, lt))

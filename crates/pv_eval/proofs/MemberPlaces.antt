@@ -8,11 +8,11 @@ use Rattle.pv_types.specs.Ty.{Ty, VoidTy, IntTy, PointerTo, ArrayOf, StructTag, 
 use Rattle.pv_types.specs.declared.terms.TypeId.{TypeId}
 use Rattle.pv_types.specs.declared.terms.Member.{Member}
 use Rattle.pv_types.specs.Known.{Known, heading_at, tree, env}
-use Rattle.pv_types.specs.Formed.{named, members_in, is_union_in, IsBuilt}
-use Rattle.pv_types.specs.Layouts.{Part, Fills, look, repeated, layout_in, is_complete_in}
+use Rattle.pv_types.specs.Formed.{named_members, members_in, is_union_in, IsBuilt}
+use Rattle.pv_types.specs.Layouts.{Part, Fills, look, parts_of_elements, layout_in, is_complete_in}
 use Rattle.pv_types.specs.LayoutParts.{struct_parts, or_none}
 use Rattle.pv_types.specs.Places.{struct_places, holder}
-use Rattle.pv_types.specs.Sorts.{bare, is_scalar, is_scalar_in, is_character}
+use Rattle.pv_types.specs.Sorts.{bare_type, is_scalar, is_scalar_in, is_character}
 use Rattle.pv_types.proofs.Fills.{right_true}
 use Rattle.pv_types.proofs.Made.{flag}
 use Rattle.pv_types.proofs.Walks.{begin_of, stop_of, walk_hit}
@@ -25,7 +25,7 @@ use Rattle.pv_inst.specs.declared.values.Kind.TheVariants.{Declared, Literal, He
 use Rattle.pv_object.specs.declared.values.Reach.{Reach}
 use Rattle.pv_world.specs.Worlds.{World}
 use Rattle.pv_world.specs.Objects.{owner_of}
-use Rattle.pv_typed.specs.Tables.{Stored, whole}
+use Rattle.pv_typed.specs.Tables.{Stored, whole_unit}
 use Rattle.pv_typed.specs.TypedUnits.{object_at}
 use Rattle.pv_eval.specs.Sizes.{setting_of, size_in}
 use Rattle.pv_eval.specs.Objects.{has_extent}
@@ -59,7 +59,7 @@ array_scalar m e want n o fills within h =
     let g : Ty → Bool = λ x. is_scalar x && agrees want x in
     let s = size_in m e in
     let ps = (layout_in (env m) e).parts in
-    no-whole (0 == o) (some_at g o (repeated n s ps))
+    no-whole (0 == o) (some_at g o (parts_of_elements n s ps))
     ∙ at_repeated g s o ps n fills.0 fills.1
     ∙ ap (λ b. b && some_at g (o % s) ps) (lt-ltb (o / s) n within)
     ∙ h
@@ -85,7 +85,7 @@ module _ (m : Known) (tag start r : ℕ) (t : TypeId) (built : IsBuilt m) (there
   HeldFrom p ms = Held m tag p (start + r) ms
 
   abbrev Reaches : Type 0
-  Reaches = r < size_in m (tree m t.0) → (f : Ty → Bool) → some_at f r (layout_in (env m) (tree m t.0)).parts ≡ some_at f (start + r) (struct_parts (env m) (named m tag) 0)
+  Reaches = r < size_in m (tree m t.0) → (f : Ty → Bool) → some_at f r (layout_in (env m) (tree m t.0)).parts ≡ some_at f (start + r) (struct_parts (env m) (named_members m tag) 0)
 
   next : (p : ℕ) (x : Member) (ms : List Member) → HeldFrom p (x ∷ ms) → stop_of m p x ≤ start → HeldFrom (stop_of m p x) ms
   next p x ms h ge = held_next m tag p (start + r) 0 (begin_of m p x) (stop_of m p x) (x ∷ ms) x (omega arith) h refl refl (omega (arith, ge))
@@ -112,7 +112,7 @@ stands_in m w tag start member want built there flag small is held u o low withi
     let f : Ty → Bool = λ x. is_scalar x && agrees want x in
     let b = some_at f (o - start) (layout_in (env m) (tree m member.0)).parts in
     let sum : start + (o - start) ≡ o = omega (arith, low) in
-    let e : b ≡ some_at f (start + (o - start)) (struct_parts (env m) (named m tag) 0) = held_from m tag start (o - start) member built there flag small held within f in
+    let e : b ≡ some_at f (start + (o - start)) (struct_parts (env m) (named_members m tag) 0) = held_from m tag start (o - start) member built there flag small held within f in
     subst (λ (k : ℕ). has_scalar m (tree m w) want k ≡ true) sum
     (struct_whole m w tag (start + (o - start)) f b built there flag is e
     ∙ ap (λ (x : Ty). ((0 == start + (o - start)) && f x) || b) is
@@ -151,7 +151,7 @@ declared_scalar ps o (ConstOf t) h e = absurd cc
 extent_true : (u : Stored) (t : Ty) → IsTrue (is_complete_in (env u.known) t) → size_in u.known t ≤ 2 ^ 32 → has_extent (setting_of u) t ≡ true
 extent_true u t complete small = ap (λ (c : Bool). c && nat_le (size_in u.known t) (2 ^ 32)) complete ∙ le-leb (size_in u.known t) (2 ^ 32) small
 
-object_permits : (u : Stored) (o offset : ℕ) (t want : Ty) → (object_at (whole u) o).t ≡ t → has_extent (setting_of u) t ≡ true → is_scalar_in want ≡ true → has_scalar u.known t want offset ≡ true
+object_permits : (u : Stored) (o offset : ℕ) (t want : Ty) → (object_at (whole_unit u) o).t ≡ t → has_extent (setting_of u) t ≡ true → is_scalar_in want ≡ true → has_scalar u.known t want offset ≡ true
     → permits_object (setting_of u) (type_by (setting_of u) (Some o)) offset want ≡ true
 object_permits u o offset t want same extent scalar h =
     let b = setting_of u in
@@ -163,14 +163,14 @@ many_fit n s many few = let big : n * s ≤ (2 ^ 20) * s = mul-le-mul_right s ma
 
 module _ (u : Stored) (p : MemberPlace) (t : TypeId) (is : IsMemberPlace u.known p t) (o offset width : ℕ) (wide : width ≡ size_in u.known (tree u.known t.0)) where
   -- an object that is the structure
-  pub whole_permits : (object_at (whole u) o).t ≡ tree u.known p.whole.0 → StandsAt p offset width → permits_object (setting_of u) (type_by (setting_of u) (Some o)) offset (tree u.known t.0) ≡ true
+  pub whole_permits : (object_at (whole_unit u) o).t ≡ tree u.known p.whole.0 → StandsAt p offset width → permits_object (setting_of u) (type_by (setting_of u) (Some o)) offset (tree u.known t.0) ≡ true
   whole_permits same s =
       let e = tree u.known p.whole.0 in
       let small : size_in u.known e ≤ 2 ^ 32 = subst (λ (k : ℕ). k ≤ 2 ^ 32) is.size is.small in
       object_permits u o offset e (tree u.known t.0) same (extent_true u e is.complete small) is.scalar (is.permits offset (subst (StandsAt p offset) wide s))
 
   -- an object that is an array of so many of the structures
-  pub element_permits : (n : ℕ) → (object_at (whole u) o).t ≡ ArrayOf (tree u.known p.whole.0) (Some n) → StandsInElement p n offset width
+  pub element_permits : (n : ℕ) → (object_at (whole_unit u) o).t ≡ ArrayOf (tree u.known p.whole.0) (Some n) → StandsInElement p n offset width
       → permits_object (setting_of u) (type_by (setting_of u) (Some o)) offset (tree u.known t.0) ≡ true
   element_permits n same s =
       let e = tree u.known p.whole.0 in
@@ -183,7 +183,7 @@ module _ (u : Stored) (p : MemberPlace) (t : TypeId) (is : IsMemberPlace u.known
       (array_scalar u.known e (tree u.known t.0) n offset is.fills within (is.permits (offset % size_in u.known e) (subst (StandsAt p (offset % size_in u.known e)) wide stands)))
 
 -- a scalar type has no qualifiers around it
-bare_itself : (t : Ty) → is_scalar_in t ≡ true → bare t ≡ t
+bare_itself : (t : Ty) → is_scalar_in t ≡ true → bare_type t ≡ t
 bare_itself (IntTy k) h = refl
 bare_itself (PointerTo t) h = refl
 bare_itself VoidTy h = absurd cc
@@ -196,7 +196,7 @@ bare_itself (ConstOf t) h = absurd cc
 pub declared_permits : (u : Stored) (w : World) (o t : ℕ) (at : Reach) (writes : Bool) (k : Kind) → is_declared k ≡ true → owner_of w at.inst ≡ Some o → is_scalar_in (tree u.known t) ≡ true
     → permits_object (setting_of u) (type_by (setting_of u) (Some o)) at.offset (tree u.known t) ≡ true → permits_in (setting_of u) w (lvalue (setting_of u) (tree u.known t)) at writes k ≡ true
 declared_permits u w o t at writes (Declared constant) d owner scalar h =
-    ap (λ (q : Option ℕ). permits_object (setting_of u) (type_by (setting_of u) q) at.offset (bare (tree u.known t))) owner
+    ap (λ (q : Option ℕ). permits_object (setting_of u) (type_by (setting_of u) q) at.offset (bare_type (tree u.known t))) owner
     ∙ ap (permits_object (setting_of u) (type_by (setting_of u) (Some o)) at.offset) (bare_itself (tree u.known t) scalar)
     ∙ h
 declared_permits u w o t at writes Literal d owner scalar h = absurd cc

@@ -7,7 +7,7 @@ use Rattle.pv_types.specs.Layouts.{Part, Entry, layout_in}
 use Rattle.pv_types.specs.Known.{Known, tree, env}
 use Rattle.pv_types.specs.Formed.{IsBuilt}
 use Rattle.pv_layout.specs.Parts.{leaves, are_counterparts}
-use Rattle.pv_types.specs.Sorts.{bare, is_scalar, is_character, is_scalar_in}
+use Rattle.pv_types.specs.Sorts.{bare_type, is_scalar, is_character, is_scalar_in}
 use Rattle.pv_effect.specs.EffectiveType.{same_or_counterpart, anything, some_over, permits_byte, permits_bytes, permits_marks}
 use Rattle.pv_types.specs.SameTypes.{same_type}
 use Rattle.pv_shadow.specs.declared.byte.Byte.{Byte}
@@ -38,7 +38,7 @@ one_part t = record { offset = 0; t = t } ∷ []
 record IsOne (es : List Entry) (t : Ty) : Type 0 where
   parts : (layout_in es t).parts ≡ one_part t
   scalar : is_scalar t ≡ true
-  unqualified : bare t ≡ t
+  unqualified : bare_type t ≡ t
 
 is-one : (es : List Entry) (t : Ty) → is_scalar_in t ≡ true → IsOne es t
 is-one es (IntTy k) h = record { parts = refl; scalar = refl; unqualified = refl }
@@ -63,8 +63,8 @@ module _ (m : Known) (i : ℕ) (built : IsBuilt m) (within : i < length m.terms)
 
   own_type : same_or_counterpart t t ≡ true
   own_type =
-      let e : same_type (bare t) (bare t) ≡ true = ap (λ (x : Ty). same_type x x) one.unqualified ∙ same m i built within in
-      ap (λ c. c || are_counterparts (bare t) (bare t)) e
+      let e : same_type (bare_type t) (bare_type t) ≡ true = ap (λ (x : Ty). same_type x x) one.unqualified ∙ same m i built within in
+      ap (λ c. c || are_counterparts (bare_type t) (bare_type t)) e
 
   own_byte : (j : ℕ) → j < size → permits_byte m (one_part t) j (Some (i, j)) ≡ true
   own_byte j h =

@@ -8,7 +8,7 @@ use Rattle.pv_typed.specs.TypedTree.{TypedTree, Arguments, NoArguments, MoreArgu
 use Rattle.pv_typed.specs.Nodes.{arguments_in}
 use Rattle.pv_typed.specs.Tables.{Stored, nodes}
 use Rattle.pv_typed.specs.NodeTrees.{expression_at, list_at}
-use Rattle.pv_seq.specs.Sequencing.{Access, Open, opened, sequence_point}
+use Rattle.pv_seq.specs.Sequencing.{Access, Open, open_against, sequence_point}
 use Rattle.pv_seq.specs.Frames.{with_reads}
 use Rattle.pv_seq.specs.Rivals.{top, below}
 use Rattle.pv_world.specs.Worlds.{Worth, World}
@@ -18,14 +18,14 @@ use Rattle.pv_eval.specs.declared.frames.Frame.{Frame}
 use Rattle.pv_eval.specs.declared.frames.Now.{Now}
 use Rattle.pv_eval.specs.declared.frames.Now.TheVariants.{Due, Asked}
 use Rattle.pv_eval.specs.States.{Setting, State, Res, Gives, Stops, Turns, then_do}
-use Rattle.pv_eval.specs.Sequenced.{Given, with_given, done}
-use Rattle.pv_eval.specs.Steps.{Calling, handed}
+use Rattle.pv_eval.specs.Sequenced.{Given, with_given, node_value}
+use Rattle.pv_eval.specs.Steps.{Calling, accepted_value}
 use Rattle.pv_eval.specs.Evaluation.{ev, ev_call}
 use Rattle.pv_eval.specs.Stack.{rest}
 use Rattle.pv_eval.specs.Frames.{after, arguments_from}
 use Rattle.pv_eval.specs.Ahead.{ahead, stack}
 use Rattle.pv_eval.specs.Moments.{Moment, state_of}
-use Rattle.pv_eval.specs.Plainly.{setting_by, turned, AreReads, has_read, HandsNoting, ComesToArguments}
+use Rattle.pv_eval.specs.Plainly.{setting_by, state_with, AreReads, has_read, HandsNoting, ComesToArguments}
 use Rattle.pv_eval.specs.AtOnce.{CallsAmong, CutAmong}
 use Rattle.pv_eval.proofs.PlainSteps.{reads_both, node_begun, node_stops}
 use Rattle.pv_eval.proofs.Calls.{none, from-more, from-none, map-last}
@@ -55,16 +55,16 @@ module _ (u : Stored) (w : World) (tree : TypedTree) (f : ℕ) (got : List Worth
     gives = λ call bound sides zap fs out es hf room.
         let b : Setting = setting_by u bound sides zap in
         let y = g.yields in
-        let go = λ (r : Res Given). then_do r (λ (q : Given) s. then_do (handed b x q.value s) (λ z s. ev_call b call (line_of tree) f (got ++ z ∷ []) xs (with_given (has_read fs all) q) s)) in
+        let go = λ (r : Res Given). then_do r (λ (q : Given) s. then_do (accepted_value b x q.value s) (λ z s. ev_call b call (line_of tree) f (got ++ z ∷ []) xs (with_given (has_read fs all) q) s)) in
         h.gives call bound sides zap fs out es hf (omega (arith, g.are, room))
         ∙ ap go (y.gives call bound sides zap (fs ++ all) out es at (reads_both fs all hf h.only) (omega (arith, g.are, room))).is
         ∙ ap (λ (r : Res Worth). then_do r (λ z s. ev_call b call (line_of tree) f (got ++ z ∷ []) xs (has_read fs (all ++ y.accesses)) s)) (g.hands b out es (at + y.turns))
-        ∙ ap (λ (qs : List Access). ev_call b call (line_of tree) f (got ++ v ∷ []) xs (has_read fs qs) (turned w out es (at + y.turns))) (sym g.noted)
-        ∙ ap (λ (m : ℕ). ev_call b call (line_of tree) f (got ++ v ∷ []) xs (has_read fs now) (turned w out es m)) (sym g.are);
+        ∙ ap (λ (qs : List Access). ev_call b call (line_of tree) f (got ++ v ∷ []) xs (has_read fs qs) (state_with w out es (at + y.turns))) (sym g.noted)
+        ∙ ap (λ (m : ℕ). ev_call b call (line_of tree) f (got ++ v ∷ []) xs (has_read fs now) (state_with w out es m)) (sym g.are);
     stops = λ call bound sides zap fs out es hf low high.
         let b : Setting = setting_by u bound sides zap in
         let y = g.yields in
-        let go = λ (r : Res Given). then_do r (λ (q : Given) s. then_do (handed b x q.value s) (λ z s. ev_call b call (line_of tree) f (got ++ z ∷ []) xs (with_given (has_read fs all) q) s)) in
+        let go = λ (r : Res Given). then_do r (λ (q : Given) s. then_do (accepted_value b x q.value s) (λ z s. ev_call b call (line_of tree) f (got ++ z ∷ []) xs (with_given (has_read fs all) q) s)) in
         ⊎_elim
         (λ lt. h.stops call bound sides zap fs out es hf low lt)
         (λ le. h.gives call bound sides zap fs out es hf le ∙ ap go (y.stops call bound sides zap (fs ++ all) out es at (reads_both fs all hf h.only) le (omega (arith, g.are, high))))
@@ -117,10 +117,10 @@ module _ (u : Stored) (n : NodeId) (f : ℕ) (got : List Worth) (all : List Acce
 
 -- a call that is due is handed up, and what its arguments read is noted
 pub goes_call : (b : Setting) (call : Calling) (u : Stored) (fs : List Frame) (js ks : List Open) (place : Now) (n : NodeId) (f : ℕ) (args : Vec Got Global) (line : ℕ) (all : List Access) (s s' : State) → place ≡ Due n
-    → top js ≡ opened (top js).foes → ks ≡ with_reads all (top js) ∷ below js → ev b call (expression_at u n) (top js).foes s ≡ then_do (call f (map worth_of args.items) line s') (done (sequence_point (has_read (top js).foes all)))
+    → top js ≡ open_against (top js).foes → ks ≡ with_reads all (top js) ∷ below js → ev b call (expression_at u n) (top js).foes s ≡ then_do (call f (map worth_of args.items) line s') (node_value (sequence_point (has_read (top js).foes all)))
     → ahead b call u fs js place s ≡ ahead b call u fs ks (Asked f args line) s'
 goes_call b call u fs js ks place n f args line all s s' at begun is h =
     ap (λ (p : Now). ahead b call u fs js p s) at
     ∙ ap (λ r. then_do r (rest (after b call u) (stack fs (below js)))) h
-    ∙ ap (λ (j : Open). then_do (then_do (call f (map worth_of args.items) line s') (done (sequence_point (with_reads all j)))) (rest (after b call u) (stack fs (below js)))) (sym begun)
+    ∙ ap (λ (j : Open). then_do (then_do (call f (map worth_of args.items) line s') (node_value (sequence_point (with_reads all j)))) (rest (after b call u) (stack fs (below js)))) (sym begun)
     ∙ ap (λ (qs : List Open). ahead b call u fs qs (Asked f args line) s') (sym is)

@@ -31,10 +31,10 @@ use Rattle.pv_eval.specs.Sizes.{points}
 use Rattle.pv_eval.specs.Conversions.{how_to}
 use Rattle.pv_world.specs.Suiting.{is_small}
 use Rattle.pv_eval.specs.States.{Setting, State, Gives}
-use Rattle.pv_eval.specs.Steps.{converted, is_minus}
+use Rattle.pv_eval.specs.Steps.{with_conversion, is_minus}
 use Rattle.pv_eval.specs.Ahead.{first_operand_of}
 use Rattle.pv_eval.specs.Operations.{Converts, Moves, Selects}
-use Rattle.pv_eval.specs.Plainly.{Yields, YieldsNoting, AlwaysGives, GivesAt, GivesNoting, IsConverted, form_by, turned, found_worth}
+use Rattle.pv_eval.specs.Plainly.{Yields, YieldsNoting, AlwaysGives, GivesAt, GivesNoting, IsConverted, form_by, state_with, found_worth}
 use Rattle.pv_eval.specs.Codes.{IsCode, AreCodes, IsOperandBy, IsOperandCode, IsArithmetic, IsReadOf, IsObjectOf, IsElementOf, IsGivenBy, IsSumOf, IsSameAs, IsPartOf, IsBefore, RoundsTo, RoundsBy, CalculatesBy}
 use Rattle.pv_eval.proofs.PlainSteps.{some_map, alone_some, reading_some, both_some, noted_with, noted_both}
 use Rattle.pv_eval.proofs.PlainNumbers.{constant_some, object_some, array_given, convert_given, converted_at, rounded_some, gives_calculated}
@@ -105,7 +105,7 @@ pub operand_before : (u : Stored) (n a : NodeId) (o : Operand) → IsBefore u n 
 operand_before u n a o b h = operand_before_by u n a o.node o.to b h
 
 -- an operand that is no conversion gives its value as it is
-not_converted : (u : Stored) (x : Typed) → ((i : NodeId) → x ≢ typed.Convert i) → (b : Setting) (t : Ty) (line : ℕ) (turn : Bool) (v : Worth) (s : State) → converted b (Node t line turn (form_by u x)) v s ≡ Gives v s
+not_converted : (u : Stored) (x : Typed) → ((i : NodeId) → x ≢ typed.Convert i) → (b : Setting) (t : Ty) (line : ℕ) (turn : Bool) (v : Worth) (s : State) → with_conversion b (Node t line turn (form_by u x)) v s ≡ Gives v s
 not_converted u (typed.Constant value) h b t line turn v s = refl
 not_converted u (typed.LargeConstant value) h b t line turn v s = refl
 not_converted u (typed.Object o) h b t line turn v s = refl
@@ -141,8 +141,8 @@ not_converted u (typed.Read x) h b t line turn v s = refl
 not_converted u (typed.ArrayPointer x) h b t line turn v s = refl
 not_converted u (typed.Convert x) h b t line turn v s = absurd (h x refl)
 
-as_it_is : (x : TypedTree) (f : Form) → form_of x ≡ f → ((b : Setting) (t : Ty) (line : ℕ) (turn : Bool) (v : Worth) (s : State) → converted b (Node t line turn f) v s ≡ Gives v s) → (v : Worth) → IsConverted x v v
-as_it_is (Node t line turn g) f e h v = λ b w out es n. ap (λ (k : Form). converted b (Node t line turn k) v (turned w out es n)) e ∙ h b t line turn v (turned w out es n)
+as_it_is : (x : TypedTree) (f : Form) → form_of x ≡ f → ((b : Setting) (t : Ty) (line : ℕ) (turn : Bool) (v : Worth) (s : State) → with_conversion b (Node t line turn f) v s ≡ Gives v s) → (v : Worth) → IsConverted x v v
+as_it_is (Node t line turn g) f e h v = λ b w out es n. ap (λ (k : Form). with_conversion b (Node t line turn k) v (state_with w out es n)) e ∙ h b t line turn v (state_with w out es n)
 
 pub unconverted : (u : Stored) (a : NodeId) (x : Typed) → form_of (expression_at u a) ≡ form_by u x → ((i : NodeId) → x ≢ typed.Convert i) → (v : Worth) → IsConverted (expression_at u a) v v
 unconverted u a x e h v = as_it_is (expression_at u a) (form_by u x) e (not_converted u x h) v

@@ -8,7 +8,7 @@ use Rattle.pv_num.specs.declared.kinds.IntKind.{IntKind}
 use Rattle.pv_fault.specs.declared.faults.Clause.TheVariants as clause
 use Rattle.pv_fault.specs.declared.faults.Reason.TheVariants as reason
 use Rattle.pv_types.specs.Ty.{Ty}
-use Rattle.pv_inst.specs.Use.{untried}
+use Rattle.pv_inst.specs.Use.{empty_use}
 use Rattle.pv_object.specs.Access.{fault}
 use Rattle.pv_typed.specs.TypedTree.{TypedTree, Convert, type_of, form_of}
 use Rattle.pv_typed.specs.TypedUnits.{layouts}
@@ -18,7 +18,7 @@ use Rattle.pv_world.specs.declared.got.How.TheVariants.{Points, Recasts}
 use Rattle.pv_world.specs.Worlds.{Worth, World}
 use Rattle.pv_world.specs.Worths.{int, pointer, null_pointer}
 use Rattle.pv_world.specs.Conversions.{recast_by}
-use Rattle.pv_world.specs.Telling.{quiet, telling, each_paired}
+use Rattle.pv_world.specs.Telling.{no_telling, telling, each_paired}
 use Rattle.pv_world.specs.Doing.{Answers}
 use Rattle.pv_eval.specs.States.{Setting}
 use Rattle.pv_eval.specs.Operations.{Converts, does}
@@ -33,7 +33,7 @@ pub zero_bits : (x : ℤ) → FitsSigned w64 x → of_z w64 x ≡ 0 → x ≡ po
 zero_bits x fits e = sym (to_z-of_z w64 x fits) ∙ ap (to_z w64) e
 
 -- 0 becomes null, of which no pair is made
-zero_points : (b : Setting) (w : World) → does b (Converts Points (int (pos 0))) w ≡ Answers (pointer null_pointer) w quiet
+zero_points : (b : Setting) (w : World) → does b (Converts Points (int (pos 0))) w ≡ Answers (pointer null_pointer) w no_telling
 zero_points b w =
     let T = w.memory.table in
     ap (λ ts. Answers (pointer null_pointer) w (telling (each_paired T (length T.pairs + 1) ts))) (drop_all (length T.pairs) T.pairs (omega arith))
@@ -47,9 +47,9 @@ zero_some from to k x e f is implied = λ b w.
     ∙ zero_points b w
 
 -- null is aligned for each type
-null_recasts : (b : Setting) (w : World) (n : ℕ) → does b (Converts (Recasts n) (pointer null_pointer)) w ≡ Answers (pointer null_pointer) w quiet
+null_recasts : (b : Setting) (w : World) (n : ℕ) → does b (Converts (Recasts n) (pointer null_pointer)) w ≡ Answers (pointer null_pointer) w no_telling
 null_recasts b w n =
-    ap (λ (m : ℕ). recast_by w null_pointer (if m == 0 then Ok untried else Err (fault clause.PointerToPointer reason.Misaligned), w.memory.table)) (zero-mod n)
+    ap (λ (m : ℕ). recast_by w null_pointer (if m == 0 then Ok empty_use else Err (fault clause.PointerToPointer reason.Misaligned), w.memory.table)) (zero-mod n)
 
 pub null_some : (from to : Ty) → shape_of from ≡ shape.Pointer → shape_of to ≡ shape.Pointer → (implied : Bool) → AlwaysGives (λ b. Converts (how_to b implied from to) (pointer null_pointer)) (pointer null_pointer)
 null_some from to e f implied = λ b w.

@@ -19,25 +19,25 @@ use Rattle.pv_typed.specs.declared.nodes.Typed.{Typed}
 use Rattle.pv_typed.specs.declared.nodes.Typed.TheVariants as typed
 use Rattle.pv_typed.specs.TypedTree.{TypedTree, Node, Form, Convert, type_of, form_of}
 use Rattle.pv_typed.specs.TypedUnits.{layouts, object_at}
-use Rattle.pv_typed.specs.Tables.{Stored, whole}
+use Rattle.pv_typed.specs.Tables.{Stored, whole_unit}
 use Rattle.pv_typed.specs.NodeTrees.{expression_at}
-use Rattle.pv_seq.specs.Sequencing.{opened}
+use Rattle.pv_seq.specs.Sequencing.{open_against}
 use Rattle.pv_world.specs.Worlds.{Worth, World}
 use Rattle.pv_world.specs.declared.got.Shape.{Shape}
 use Rattle.pv_world.specs.declared.got.Shape.TheVariants as shape
 use Rattle.pv_world.specs.declared.got.How.TheVariants.{Rounds, Passes}
-use Rattle.pv_world.specs.Worths.{int, pointer, null_pointer, missing_value, computed}
+use Rattle.pv_world.specs.Worths.{int, pointer, null_pointer, missing_value, arithmetic_result}
 use Rattle.pv_world.specs.Calculations.{follows_to}
 use Rattle.pv_world.specs.CalculationParts.{calculates, calculates_one}
 use Rattle.pv_world.specs.Objects.{address_of, instance_of}
-use Rattle.pv_world.specs.Telling.{quiet}
+use Rattle.pv_world.specs.Telling.{no_telling}
 use Rattle.pv_world.specs.Doing.{Answers, Fails}
 use Rattle.pv_eval.specs.declared.marked.Marked.{Marked}
 use Rattle.pv_eval.specs.States.{Setting, Gives, then_do}
-use Rattle.pv_eval.specs.Acting.{noted, pair_count, by_side, answered, acted}
+use Rattle.pv_eval.specs.Acting.{after_telling, pair_count, by_side, answer_with_sides, after_doing}
 use Rattle.pv_eval.specs.Operations.{Op, Converts, Calculates, CalculatesOne, Negates, Follows, Selects, NamesObject, does, act}
-use Rattle.pv_eval.specs.Sequenced.{done, work}
-use Rattle.pv_eval.specs.Steps.{converted}
+use Rattle.pv_eval.specs.Sequenced.{node_value, work}
+use Rattle.pv_eval.specs.Steps.{with_conversion}
 use Rattle.pv_eval.specs.Evaluation.{ev}
 use Rattle.pv_eval.specs.TypeForms.{kind_of, shape_of, pointed_to}
 use Rattle.pv_types.specs.Sorts.{is_void as is_none}
@@ -46,24 +46,24 @@ use Rattle.pv_world.specs.Suiting.{is_small, is_promoted, is_operand}
 use Rattle.pv_world.proofs.Guards.{both_of}
 use Rattle.pv_eval.specs.declared.plain.Found.{Found}
 use Rattle.pv_eval.specs.declared.plain.Found.TheVariants as found
-use Rattle.pv_eval.specs.Plainly.{setting_by, turned, has_read, GivesAlone, GivesWith, GivesWithBoth, AlwaysGives, GivesAt, IsConverted, pointer_at, found_worth}
+use Rattle.pv_eval.specs.Plainly.{setting_by, state_with, has_read, GivesAlone, GivesWith, GivesWithBoth, AlwaysGives, GivesAt, IsConverted, pointer_at, found_worth}
 
 pub not_less : (n : ℕ) → nat_lt n n ≡ false
 not_less n = le-ltb n n (omega arith)
 
 module _ (w : World) (out : List ℕ) (es : List Marked) (n : ℕ) where
-  noted_quiet : noted w quiet (turned w out es n) ≡ turned w out es n
-  noted_quiet = ap (λ (o : List ℕ). turned w o (es ++ []) n) (append-nil out) ∙ ap (λ (e : List Marked). turned w out e n) (append-nil es)
+  noted_quiet : after_telling w no_telling (state_with w out es n) ≡ state_with w out es n
+  noted_quiet = ap (λ (o : List ℕ). state_with w o (es ++ []) n) (append-nil out) ∙ ap (λ (e : List Marked). state_with w out e n) (append-nil es)
 
-  answered_quiet : (sides : Option (List Bool)) (v : Worth) (line : ℕ) → answered sides v line w quiet (turned w out es n) ≡ Gives v (turned w out es n)
+  answered_quiet : (sides : Option (List Bool)) (v : Worth) (line : ℕ) → answer_with_sides sides v line w no_telling (state_with w out es n) ≡ Gives v (state_with w out es n)
   answered_quiet None v line = ap (Gives v) noted_quiet
   answered_quiet (Some sides) v line =
-      ap (λ c. if c then by_side (slice_get sides (pair_count w)) v line w quiet (turned w out es n) else Gives v (noted w quiet (turned w out es n))) (not_less (pair_count w))
+      ap (λ c. if c then by_side (slice_get sides (pair_count w)) v line w no_telling (state_with w out es n) else Gives v (after_telling w no_telling (state_with w out es n))) (not_less (pair_count w))
       ∙ ap (Gives v) noted_quiet
 
   -- an operation that tells nothing gives its value in the state as it is
-  pub act_gives : (b : Setting) (line : ℕ) (op : Op) (v : Worth) → does b op w ≡ Answers v w quiet → act b line op (turned w out es n) ≡ Gives v (turned w out es n)
-  act_gives b line op v h = ap (λ d. acted b line d (turned w out es n)) h ∙ answered_quiet b.sides v line
+  pub act_gives : (b : Setting) (line : ℕ) (op : Op) (v : Worth) → does b op w ≡ Answers v w no_telling → act b line op (state_with w out es n) ≡ Gives v (state_with w out es n)
+  act_gives b line op v h = ap (λ d. after_doing b line d (state_with w out es n)) h ∙ answered_quiet b.sides v line
 
 -- the same operands
 pub calculates_same : (op : BinOp) (k : IntKind) (x y left right : ℤ) (v : Worth) → x ≡ left → y ≡ right → AlwaysGives (λ b. Calculates op k (int x) (int y)) v → AlwaysGives (λ b. Calculates op k (int left) (int right)) v
@@ -113,9 +113,9 @@ pub calculated_some : (op : BinOp) (k : IntKind) (x y z : ℤ) (r : Option ℤ) 
     → IfSome r (λ q. AlwaysGives (λ b. Calculates op k (int x) (int y)) (int q))
 calculated_some op k x y z None e f g h i = tt
 calculated_some op k x y z (Some q) e f g h i = λ b w.
-    ap (λ c. if c then calculates op k (int x) (int y) w else Fails missing_value None w quiet) (both_of (is_promoted k && fits_of k x) (is_operand op k y) (both_of (is_promoted k) (fits_of k x) e f) g)
-    ∙ ap (computed w) h
-    ∙ ap (λ (n : ℤ). Answers (int n) w quiet) (sym i)
+    ap (λ c. if c then calculates op k (int x) (int y) w else Fails missing_value None w no_telling) (both_of (is_promoted k && fits_of k x) (is_operand op k y) (both_of (is_promoted k) (fits_of k x) e f) g)
+    ∙ ap (arithmetic_result w) h
+    ∙ ap (λ (n : ℤ). Answers (int n) w no_telling) (sym i)
 
 -- no conversion changes a member of the kind
 pub member_kept : (k : IntKind) (z : ℤ) → Fits k z → convert_of k z ≡ z
@@ -127,17 +127,17 @@ member_kept _ z h = grind (arith, ints, nat_tests)
 
 -- a conversion between integer types
 module _ (x : ℤ) (small : is_small (int x) ≡ true) (b : Setting) (w : World) where
-  pub rounds : (k : IntKind) → does b (Converts (Rounds k) (int x)) w ≡ Answers (int (convert_of k x)) w quiet
-  rounds k = ap (λ c. if c then Answers (int (convert_of k x)) w quiet else Fails missing_value None w quiet) (both_of (is_small (int x)) true small refl)
+  pub rounds : (k : IntKind) → does b (Converts (Rounds k) (int x)) w ≡ Answers (int (convert_of k x)) w no_telling
+  rounds k = ap (λ c. if c then Answers (int (convert_of k x)) w no_telling else Fails missing_value None w no_telling) (both_of (is_small (int x)) true small refl)
 
-  passes_on : (k : IntKind) → does b (Converts (Passes k) (int x)) w ≡ Answers (int (convert_of k x)) w quiet
-  passes_on k = ap (λ c. if c then Answers (int (convert_of k x)) w quiet else Fails missing_value None w quiet) (both_of (is_small (int x)) true small refl)
+  passes_on : (k : IntKind) → does b (Converts (Passes k) (int x)) w ≡ Answers (int (convert_of k x)) w no_telling
+  passes_on k = ap (λ c. if c then Answers (int (convert_of k x)) w no_telling else Fails missing_value None w no_telling) (both_of (is_small (int x)) true small refl)
 
-  rounds_or : (c : Bool) (k : IntKind) → does b (Converts (if c then Passes k else Rounds k) (int x)) w ≡ Answers (int (convert_of k x)) w quiet
+  rounds_or : (c : Bool) (k : IntKind) → does b (Converts (if c then Passes k else Rounds k) (int x)) w ≡ Answers (int (convert_of k x)) w no_telling
   rounds_or true k = passes_on k
   rounds_or false k = rounds k
 
-  between_integers : (implied : Bool) (j k : IntKind) → does b (Converts (how_to_int implied (shape.Int j) k) (int x)) w ≡ Answers (int (convert_of k x)) w quiet
+  between_integers : (implied : Bool) (j k : IntKind) → does b (Converts (how_to_int implied (shape.Int j) k) (int x)) w ≡ Answers (int (convert_of k x)) w no_telling
   between_integers true j k = rounds_or (is_character_kind j && is_character_kind k) k
   between_integers false j k = rounds k
 
@@ -148,7 +148,7 @@ rounded_some from to j k x z (Some q) e f g small h implied = λ b w.
     ap (λ (s : Shape). does b (Converts (how_by (layouts b.unit) implied s (shape_of to) (pointed_to to)) (int x)) w) e
     ∙ ap (λ (s : Shape). does b (Converts (how_by (layouts b.unit) implied (shape.Int j) s (pointed_to to)) (int x)) w) f
     ∙ between_integers x small b w implied j k
-    ∙ ap (λ (n : ℤ). Answers (int n) w quiet) (sym (h ∙ g))
+    ∙ ap (λ (n : ℤ). Answers (int n) w no_telling) (sym (h ∙ g))
 
 pub kept_some : (k : IntKind) (v : Found) (x z : ℤ) (r : Option Found) → found_worth v ≡ int x → is_small (int x) ≡ true → z ≡ convert_of k x → IfSome r (λ q. found_worth q ≡ int z)
     → IfSome r (λ q. AlwaysGives (λ b. Converts (Rounds k) (found_worth v)) (found_worth q))
@@ -156,12 +156,12 @@ kept_some k v x z None e small f h = tt
 kept_some k v x z (Some q) e small f h = λ b w.
     ap (λ y. does b (Converts (Rounds k) y) w) e
     ∙ rounds x small b w k
-    ∙ ap (λ y. Answers y w quiet) (ap int (sym f) ∙ sym h)
+    ∙ ap (λ y. Answers y w no_telling) (ap int (sym f) ∙ sym h)
 
 -- the operand of a node, converted by its own node
 pub converted_at : (x i : TypedTree) (v z : Worth) → form_of x ≡ Convert i → AlwaysGives (λ b. Converts (how_to b true (type_of i) (type_of x)) v) z → IsConverted x v z
 converted_at (Node t line turn f) (Node s m k y) v z e h = λ b w out es n.
-    ap (λ (g : Form). converted b (Node t line turn g) v (turned w out es n)) e
+    ap (λ (g : Form). with_conversion b (Node t line turn g) v (state_with w out es n)) e
     ∙ act_gives w out es n b line (Converts (how_to b true s t) v) z (h b w)
 
 pub converted_some : (x i : TypedTree) (from to : Ty) (v : Worth) (k : ℤ) (r : Option ℤ) → form_of x ≡ Convert i → from ≡ type_of i → to ≡ type_of x → v ≡ int k
@@ -180,16 +180,16 @@ gives_calculated u w t op a d k x y left right v hx hy e h = record {
   turns = λ turn. refl;
   gives = λ call bound sides zap line fs gs out es n hf ha.
       let b = setting_by u bound sides zap in
-      let s = turned w out es n in
+      let s = state_with w out es n in
       let j = has_read fs gs in
       let kind = kind_of (type_of (expression_at u a)) in
       record {
         reads = ha;
         is =
-            ap (λ r. then_do r (λ v s. then_do (converted b (expression_at u d) y s) (λ z s. work b line (Calculates op kind v z) j s))) (hx b w out es n)
+            ap (λ r. then_do r (λ v s. then_do (with_conversion b (expression_at u d) y s) (λ z s. work b line (Calculates op kind v z) j s))) (hx b w out es n)
             ∙ ap (λ r. then_do r (λ z s. work b line (Calculates op kind left z) j s)) (hy b w out es n)
             ∙ ap (λ (i : IntKind). work b line (Calculates op i left right) j s) (sym e)
-            ∙ ap (λ r. then_do r (done j)) (act_gives w out es n b line (Calculates op k left right) v (h b w));
+            ∙ ap (λ r. then_do r (node_value j)) (act_gives w out es n b line (Calculates op k left right) v (h b w));
       };
 }
 
@@ -200,7 +200,7 @@ constant_some u w x k None is h = tt
 constant_some u w x k (Some v) is h = subst (λ y. GivesAlone u w y (found_worth v)) (sym is) (record {
   turns = λ turn. refl;
   takes = λ turn. refl;
-  gives = λ call bound sides zap t line fs out es n. ap (λ z. done (opened fs) z (turned w out es n)) (sym h);
+  gives = λ call bound sides zap t line fs out es n. ap (λ z. node_value (open_against fs) z (state_with w out es n)) (sym h);
 })
 
 pub size_some : (u : Stored) (w : World) (x : Typed) (k : ℕ) (r : Option Found) → x ≡ typed.Sizeof k → IfSome r (λ v. found_worth v ≡ int (pos k)) → IfSome r (λ v. GivesAlone u w x (found_worth v))
@@ -209,10 +209,10 @@ size_some u w x k None is h = tt
 size_some u w x k (Some v) is h = subst (λ y. GivesAlone u w y (found_worth v)) (sym is) (record {
   turns = λ turn. refl;
   takes = λ turn. refl;
-  gives = λ call bound sides zap t line fs out es n. ap (λ z. done (opened fs) z (turned w out es n)) (sym h);
+  gives = λ call bound sides zap t line fs out es n. ap (λ z. node_value (open_against fs) z (state_with w out es n)) (sym h);
 })
 
-pub object_some : (u : Stored) (w : World) (x : Typed) (o : ℕ) (lasting : Bool) (r : Option Found) → x ≡ typed.Object o → (object_at (whole u) o).lasting ≡ lasting
+pub object_some : (u : Stored) (w : World) (x : Typed) (o : ℕ) (lasting : Bool) (r : Option Found) → x ≡ typed.Object o → (object_at (whole_unit u) o).lasting ≡ lasting
     → IfSome r (λ v. found_worth v ≡ pointer (address_of w (instance_of w o lasting))) → IfSome r (λ v. GivesAlone u w x (found_worth v))
 unfolding ev
 object_some u w x o lasting None is same h = tt
@@ -221,9 +221,9 @@ object_some u w x o lasting (Some v) is same h = subst (λ y. GivesAlone u w y (
   takes = λ turn. refl;
   gives = λ call bound sides zap t line fs out es n.
       let b = setting_by u bound sides zap in
-      ap (λ r. then_do r (done (opened fs)))
+      ap (λ r. then_do r (node_value (open_against fs)))
       (act_gives w out es n b line (NamesObject o) (found_worth v)
-      (ap (λ (l : Bool). Answers (pointer (address_of w (instance_of w o l))) w quiet) same ∙ ap (λ z. Answers z w quiet) (sym h)));
+      (ap (λ (l : Bool). Answers (pointer (address_of w (instance_of w o l))) w no_telling) same ∙ ap (λ z. Answers z w no_telling) (sym h)));
 })
 
 -- nodes that give the value of their operand
@@ -243,11 +243,11 @@ module _ (u : Stored) (w : World) (t : Ty) where
     turns = λ turn. refl;
     gives = λ call bound sides zap line fs gs out es n hf hg. record {
       reads = hg;
-      is = ap (λ r. then_do r (done (has_read fs gs))) (act_gives w out es n (setting_by u bound sides zap) line (Follows (is_none t) (found_worth v)) (found_worth v) (follows_found (setting_by u bound sides zap) v));
+      is = ap (λ r. then_do r (node_value (has_read fs gs))) (act_gives w out es n (setting_by u bound sides zap) line (Follows (is_none t) (found_worth v)) (found_worth v) (follows_found (setting_by u bound sides zap) v));
     };
   })
     where
-      follows_found : (b : Setting) (v : Found) → does b (Follows (is_none t) (found_worth v)) w ≡ Answers (found_worth v) w quiet
+      follows_found : (b : Setting) (v : Found) → does b (Follows (is_none t) (found_worth v)) w ≡ Answers (found_worth v) w no_telling
       follows_found b (found.Number k) = ap (λ c. follows_to c (int k) w) e
       follows_found b (found.Place p) = ap (λ c. follows_to c (pointer (pointer_at p)) w) e
       follows_found b found.Null = ap (λ c. follows_to c (pointer null_pointer) w) e
@@ -257,7 +257,7 @@ module _ (u : Stored) (w : World) (t : Ty) where
     turns = λ turn. refl;
     gives = λ call bound sides zap line fs gs out es n hf hg. record {
       reads = hg;
-      is = ap (λ r. then_do r (done (has_read fs gs))) (act_gives w out es n (setting_by u bound sides zap) line (Selects offset first) v (h (setting_by u bound sides zap)));
+      is = ap (λ r. then_do r (node_value (has_read fs gs))) (act_gives w out es n (setting_by u bound sides zap) line (Selects offset first) v (h (setting_by u bound sides zap)));
     };
   })
 
@@ -266,7 +266,7 @@ module _ (u : Stored) (w : World) (t : Ty) where
     turns = λ turn. refl;
     gives = λ call bound sides zap line fs gs out es n hf hg. record {
       reads = hg;
-      is = ap (λ r. then_do r (done (has_read fs gs))) (act_gives w out es n (setting_by u bound sides zap) line (Selects offset first) v (h (setting_by u bound sides zap)));
+      is = ap (λ r. then_do r (node_value (has_read fs gs))) (act_gives w out es n (setting_by u bound sides zap) line (Selects offset first) v (h (setting_by u bound sides zap)));
     };
   })
 
@@ -275,7 +275,7 @@ module _ (u : Stored) (w : World) (t : Ty) where
     turns = λ turn. refl;
     gives = λ call bound sides zap line fs gs out es n hf hg. record {
       reads = hg;
-      is = ap (λ r. then_do r (done (has_read fs gs))) (act_gives w out es n (setting_by u bound sides zap) line (Negates first) v (h (setting_by u bound sides zap)));
+      is = ap (λ r. then_do r (node_value (has_read fs gs))) (act_gives w out es n (setting_by u bound sides zap) line (Negates first) v (h (setting_by u bound sides zap)));
     };
   })
 
@@ -284,14 +284,14 @@ module _ (u : Stored) (w : World) (t : Ty) where
     turns = λ turn. refl;
     gives = λ call bound sides zap line fs gs out es n hf hg.
         let b = setting_by u bound sides zap in
-        let s = turned w out es n in
+        let s = state_with w out es n in
         let j = has_read fs gs in
         record {
           reads = hg;
           is =
               ap (λ r. then_do r (λ v s. work b line (CalculatesOne op (kind_of t) v) j s)) (hx b w out es n)
               ∙ ap (λ (i : IntKind). work b line (CalculatesOne op i operand) j s) (sym e)
-              ∙ ap (λ r. then_do r (done j)) (act_gives w out es n b line (CalculatesOne op k operand) v (h b w));
+              ∙ ap (λ r. then_do r (node_value j)) (act_gives w out es n b line (CalculatesOne op k operand) v (h b w));
         };
   }
 
@@ -303,7 +303,7 @@ module _ (u : Stored) (w : World) (t : Ty) where
         record {
           reads = hg;
           is =
-              ap (λ r. then_do r (done (has_read fs gs)))
+              ap (λ r. then_do r (node_value (has_read fs gs)))
               (act_gives w out es n b line (Converts (how_to b false (type_of (expression_at u a)) t) first) v
               (ap (λ (s : Ty). does b (Converts (how_to b false s t) first) w) (sym e) ∙ h b w));
         };
@@ -313,6 +313,6 @@ module _ (u : Stored) (w : World) (t : Ty) where
 pub calculated_one_some : (op : UnOp) (k : IntKind) (x z : ℤ) (r : Option ℤ) → is_promoted k ≡ true → fits_of k x ≡ true → unary_of op k x ≡ Ok z → IfSome r (λ q. q ≡ z) → IfSome r (λ q. AlwaysGives (λ b. CalculatesOne op k (int x)) (int q))
 calculated_one_some op k x z None e f h i = tt
 calculated_one_some op k x z (Some q) e f h i = λ b w.
-    ap (λ c. if c then calculates_one op k (int x) w else Fails missing_value None w quiet) (both_of (is_promoted k) (fits_of k x) e f)
-    ∙ ap (computed w) h
-    ∙ ap (λ (n : ℤ). Answers (int n) w quiet) (sym i)
+    ap (λ c. if c then calculates_one op k (int x) w else Fails missing_value None w no_telling) (both_of (is_promoted k) (fits_of k x) e f)
+    ∙ ap (arithmetic_result w) h
+    ∙ ap (λ (n : ℤ). Answers (int n) w no_telling) (sym i)

@@ -13,7 +13,7 @@ use Rattle.pv_inst.specs.Use.{is_function, holds}
 use Rattle.pv_object.specs.declared.values.Pointer.{Pointer}
 use Rattle.pv_object.specs.Access.{fault}
 use Rattle.pv_object.specs.Operations.{moved_to, move_under}
-use Rattle.pv_object.specs.OperationParts.{moved, moved_by}
+use Rattle.pv_object.specs.OperationParts.{address_on, moved_by}
 use Rattle.pv_tree.specs.declared.nodes.NodeId.{NodeId}
 use Rattle.pv_types.specs.Ty.{Ty}
 use Rattle.pv_typed.specs.declared.nodes.Sign.{Sign}
@@ -23,7 +23,7 @@ use Rattle.pv_typed.specs.Tables.{Stored}
 use Rattle.pv_typed.specs.NodeTrees.{expression_at}
 use Rattle.pv_world.specs.Worlds.{Worth, World}
 use Rattle.pv_world.specs.Worths.{int, pointer, missing_value}
-use Rattle.pv_world.specs.Telling.{quiet}
+use Rattle.pv_world.specs.Telling.{no_telling}
 use Rattle.pv_world.specs.Doing.{Fails}
 use Rattle.pv_world.specs.Pointers.{distance, moves, moved_by as moved_so}
 use Rattle.pv_world.specs.PointerParts.{selects}
@@ -33,7 +33,7 @@ use Rattle.pv_types.specs.Sorts.{is_pointer}
 use Rattle.pv_eval.specs.Sizes.{setting_of}
 use Rattle.pv_world.specs.Suiting.{knows_worth, is_small, is_size}
 use Rattle.pv_eval.specs.Operations.{Moves, Selects, does}
-use Rattle.pv_eval.specs.Sequenced.{done}
+use Rattle.pv_eval.specs.Sequenced.{node_value}
 use Rattle.pv_eval.specs.Steps.{is_minus}
 use Rattle.pv_eval.specs.declared.plain.Found.{Found}
 use Rattle.pv_eval.specs.declared.plain.Spot.{Spot}
@@ -51,14 +51,14 @@ none_held k = by (is_function k)
     by true = refl
     by false = refl
 
-pub has_moved : (T : Table) (i a to : ℕ) (by : ℤ) (y : Info) (c : Clause) → info_of (instance_at T.instances i) ≡ Some y → moved a by ≡ to → y.base ≤ to → to ≤ y.base + y.size
+pub has_moved : (T : Table) (i a to : ℕ) (by : ℤ) (y : Info) (c : Clause) → info_of (instance_at T.instances i) ≡ Some y → address_on a by ≡ to → y.base ≤ to → to ≤ y.base + y.size
     → HasMoved c T (record { address = a; prov = Inst i }) by (record { address = to; prov = Inst i })
 has_moved T i a to by y c there is low high =
     let p : Pointer = record { address = a; prov = Inst i } in
     record {
       known = live_known T i y there;
       is =
-          ap (λ b. if b then (Err (fault c reason.Null), T) else moved_to c T p (moved a by)) (right_false (a == 0) false refl)
+          ap (λ b. if b then (Err (fault c reason.Null), T) else moved_to c T p (address_on a by)) (right_false (a == 0) false refl)
           ∙ ap (moved_to c T p) is
           ∙ ap (λ r. (moved_by c p to r, T)) (used T i to 0 y there low (omega (arith, high)) (none_held y.kind));
     }
@@ -67,7 +67,7 @@ module _ (w : World) (p : Spot) where
   pub selected_some : (offset : ℕ) (by : ℤ) (r : Option Spot) → by ≡ pos offset → IfSome r (λ q. HasMoved clause.Indirection w.memory.table (pointer_at p) by (pointer_at q)) → IfSome r (λ q. GivesAt w (λ b. Selects offset (pointer (pointer_at p))) (pointer (pointer_at q)))
   selected_some offset by None e h = tt
   selected_some offset by (Some q) e h = λ b.
-      ap (λ c. if c then selects offset (pointer (pointer_at p)) w else Fails missing_value None w quiet) h.known
+      ap (λ c. if c then selects offset (pointer (pointer_at p)) w else Fails missing_value None w no_telling) h.known
       ∙ ap (λ (n : ℤ). moved_so w (pointer_at p) (move_under clause.Indirection w.memory.table (pointer_at p) n)) (sym e)
       ∙ ap (moved_so w (pointer_at p)) h.is
 
@@ -77,7 +77,7 @@ module _ (w : World) (p : Spot) where
   stepped_some minus size k by (Some q) sized small e h = λ b.
       let v = pointer (pointer_at p) in
       let T = w.memory.table in
-      ap (λ c. if c then moves minus true size v (int k) w else Fails missing_value None w quiet)
+      ap (λ c. if c then moves minus true size v (int k) w else Fails missing_value None w no_telling)
       (both_of (is_size size) ((is_small v && is_small (int k)) && (knows_worth T v && knows_worth T (int k))) sized
       (both_of (is_small v && is_small (int k)) (knows_worth T v && knows_worth T (int k)) (both_of (is_small v) (is_small (int k)) refl small) (both_of (knows_worth T v) true h.known refl)))
       ∙ ap (λ (n : ℤ). moved_so w (pointer_at p) (move_under clause.AdditionOfPointers T (pointer_at p) n)) (sym e)
@@ -98,7 +98,7 @@ module _ (u : Stored) (w : World) (a d : NodeId) (size : ℕ) (first second : Wo
             record {
               reads = hg;
               is =
-                  ap (λ r. then_do r (done (has_read fs gs)))
+                  ap (λ r. then_do r (node_value (has_read fs gs)))
                   (act_gives w out es n b line (Moves false (is_pointer x) (element_size b (if is_pointer x then x else y)) first second) (found_worth v)
                   (ap (λ c. does b (Moves false c (element_size b (if c then x else y)) first second) w) pointing
                   ∙ ap (λ (k : ℕ). does b (Moves false true k first second) w) (sym e)
@@ -118,7 +118,7 @@ module _ (u : Stored) (w : World) (a d : NodeId) (size : ℕ) (first second : Wo
             record {
               reads = hg;
               is =
-                  ap (λ r. then_do r (done (has_read fs gs)))
+                  ap (λ r. then_do r (node_value (has_read fs gs)))
                   (act_gives w out es n b line (Moves (is_minus sign) (is_pointer x) (element_size b t) first second) (found_worth v)
                   (ap (λ c. does b (Moves (is_minus sign) c (element_size b t) first second) w) pointing
                   ∙ ap (λ c. does b (Moves c true (element_size b t) first second) w) (sym f)

@@ -7,17 +7,17 @@ use Rattle.pv_fault.specs.declared.faults.Reason.TheVariants.{WrongType, Unseque
 use Rattle.std.specs.Option.{option_map, option_and_then}
 use Rattle.pv_prov.specs.declared.names.Prov.{Prov}
 use Rattle.pv_prov.specs.declared.names.Prov.TheVariants.{Empty, Inst}
-use Rattle.pv_prov.specs.Names.{alone}
+use Rattle.pv_prov.specs.Names.{one_candidate}
 use Rattle.pv_inst.specs.declared.values.Info.{Info}
 use Rattle.pv_inst.specs.declared.values.Instance.{Instance}
 use Rattle.pv_inst.specs.declared.values.Test.TheVariants.{Live}
 use Rattle.pv_inst.specs.declared.values.Miss.TheVariants.{Ended}
 use Rattle.pv_inst.specs.Table.{Table, instance_at}
 use Rattle.pv_inst.specs.Infos.{info_of}
-use Rattle.pv_inst.specs.Use.{any_survives, miss_of, use_answer, untried, settled}
+use Rattle.pv_inst.specs.Use.{any_survives, miss_of, use_answer, empty_use, after_use}
 use Rattle.pv_inst.specs.SameParts.{made_passes}
 use Rattle.pv_shadow.specs.declared.byte.Byte.{Byte}
-use Rattle.pv_shadow.specs.Bytes.{read}
+use Rattle.pv_shadow.specs.Bytes.{bytes_from}
 use Rattle.pv_shadow.specs.Whole.{whole_name, number_in}
 use Rattle.pv_object.specs.declared.values.Pointer.{Pointer}
 use Rattle.pv_object.specs.declared.values.Reach.{Reach}
@@ -30,8 +30,8 @@ use Rattle.pv_typed.specs.Tables.{Stored}
 use Rattle.pv_world.specs.declared.got.Shape.{Shape}
 use Rattle.pv_world.specs.declared.got.Shape.TheVariants as shape
 use Rattle.pv_world.specs.Worlds.{World, with_table}
-use Rattle.pv_world.specs.Worths.{pointer, null_pointer, missing_value, undefined}
-use Rattle.pv_world.specs.Telling.{quiet, telling, uses, live_test, range_test, each_paired, each_exposed, exposures, pairings}
+use Rattle.pv_world.specs.Worths.{pointer, null_pointer, missing_value, undefined_behaviour}
+use Rattle.pv_world.specs.Telling.{no_telling, telling, uses, live_test, range_test, each_paired, each_exposed, exposures, pairings}
 use Rattle.pv_world.specs.ObjectParts.{used_pair}
 use Rattle.pv_world.specs.Doing.{Answers, Fails}
 use Rattle.pv_world.specs.Accesses.{reaching_by, scalar_by, worth_in}
@@ -59,7 +59,7 @@ module _ (T : Table) (i : ℕ) (y : Info) (there : info_of (instance_at T.instan
 
   used_live : use_answer T (Inst i) Live ≡ Ok alone_tried
   used_live =
-      ap (λ c. if c || false then Ok (record { pair = None; low = c; high = false }) else Err (if any_survives true T.instances (alone i) Live then miss_of Live else Ended))
+      ap (λ c. if c || false then Ok (record { pair = None; low = c; high = false }) else Err (if any_survives true T.instances (one_candidate i) Live then miss_of Live else Ended))
       (lives_by (instance_at T.instances i) there)
 
 pub live_used : (T : Table) (i : ℕ) (o : Option Info) → o ≡ info_of (instance_at T.instances i) → is_some o ≡ true → use_answer T (Inst i) Live ≡ Ok alone_tried
@@ -72,7 +72,7 @@ live_is_known T i (Some y) e h = live_known T i y (sym e)
 
 -- pointers that pass their live tests
 pub looked_null : (T : Table) → IsLooked T (pointer null_pointer) 0
-looked_null T = record { named = null_pointer; is = refl; address = refl; known = refl; tried = untried; used = refl; single = refl; stays = refl }
+looked_null T = record { named = null_pointer; is = refl; address = refl; known = refl; tried = empty_use; used = refl; single = refl; stays = refl }
 
 pub looked_empty : (T : Table) (a : ℕ) → a ≡ 0 → IsLooked T (pointer (record { address = a; prov = Empty })) a
 looked_empty T a e = subst (λ (n : ℕ). IsLooked T (pointer (record { address = n; prov = Empty })) n) (sym e) (looked_null T)
@@ -102,20 +102,20 @@ module _ (w : World) (bytes : List Byte) (q : Pointer) (a : ℕ) (p : Pointer) (
   used_q : use_answer T q.prov Live ≡ Ok looked.tried
   used_q = ap (λ (z : Pointer). use_answer T z.prov Live) (sym named) ∙ looked.used
 
-  stays_q : settled T q.prov (Ok looked.tried) ≡ T
-  stays_q = ap (λ (z : Pointer). settled T z.prov (Ok looked.tried)) (sym named) ∙ looked.stays
+  stays_q : after_use T q.prov (Ok looked.tried) ≡ T
+  stays_q = ap (λ (z : Pointer). after_use T z.prov (Ok looked.tried)) (sym named) ∙ looked.stays
 
   pointer_is : pointer_of T bytes (number_in bytes) ≡ (Ok (PointerValue q, looked.tried), T)
   pointer_is =
       let parts = whole_parts (number_in bytes) (whole_name bytes) q whole in
       ap (pointer_of T bytes) parts.0
       ∙ ap (λ m. pointer_named T m q.address) parts.1
-      ∙ ap (λ x. (live_answer q x, settled T q.prov x)) used_q
+      ∙ ap (λ x. (live_answer q x, after_use T q.prov x)) used_q
       ∙ ap (λ (U : Table). (Ok (PointerValue q, looked.tried), U)) stays_q
 
-  pub pointer_given : scalar_by w bytes shape.Pointer (Some p.prov) quiet (pointer_of T bytes (number_in bytes)) ≡ Answers (pointer q) w quiet
+  pub pointer_given : scalar_by w bytes shape.Pointer (Some p.prov) no_telling (pointer_of T bytes (number_in bytes)) ≡ Answers (pointer q) w no_telling
   pointer_given =
-      ap (scalar_by w bytes shape.Pointer (Some p.prov) quiet) pointer_is
+      ap (scalar_by w bytes shape.Pointer (Some p.prov) no_telling) pointer_is
       ∙ ap (λ (xs : List ℕ). Answers (pointer q) (with_table w (record T { pending = xs })) (telling ([] ++ pairings T T ++ used_pair looked.tried.pair live_test looked.tried ++ exposures T))) (sym all)
       ∙ ap (λ k. Answers (pointer q) w (telling ([] ++ pairings T T ++ used_pair k live_test looked.tried ++ exposures T))) looked.single
       ∙ ap (λ ts. Answers (pointer q) w (telling ([] ++ each_paired T (length T.pairs + 1) ts ++ [] ++ exposures T))) (drop_all (length T.pairs) T.pairs (omega arith))
@@ -127,23 +127,23 @@ module _ (u : Stored) (w : World) (t : Ty) (p : Pointer) (at : Reach) (form : sh
   l = lvalue (setting_of u) t
 
   abbrev bytes_there : List Byte
-  bytes_there = read w.memory.bytes at.address l.size
+  bytes_there = bytes_from w.memory.bytes at.address l.size
 
   pub pointer_read : (q : Pointer) (a : ℕ) → HasReached w.memory.table p l.size l.align false at → permits (setting_of u) w l at false ≡ true → w.memory.table.pending ≡ [] → whole_pointer bytes_there ≡ Some q → IsLooked w.memory.table (pointer q) a
       → ReadsFrom u w t p (pointer q)
   pointer_read q a reached permitted all whole looked = λ bound sides zap rs hr.
       let b = setting_by u bound sides zap in
-      ap (λ c. if c then reads b l (pointer p) rs w else Fails missing_value None w quiet) (both_of (fits_lvalue u t) (knows w.memory.table p.prov) fits known)
+      ap (λ c. if c then reads b l (pointer p) rs w else Fails missing_value None w no_telling) (both_of (fits_lvalue u t) (knows w.memory.table p.prov) fits known)
       ∙ ap (λ x. reaching_by w p (range_use w.memory.table p l.size) x (reads_at b l p rs)) reached.is
       ∙ ap (λ x. reads_at b l p rs at w (telling (uses range_test x))) reached.used
-      ∙ ap (λ c. if c then reads_permitted l p rs at w quiet else Fails (undefined EffectiveTypes WrongType) (Some p.prov) w quiet) permitted
-      ∙ ap (λ c. if c then Fails (undefined Sequencing Unsequenced) (Some p.prov) w quiet else worth_in w bytes_there l.shape (Some at.address) (Some p.prov) quiet) (no_clash (access_to l p false) rs refl hr)
-      ∙ ap (λ (s : Shape). worth_in w bytes_there s (Some at.address) (Some p.prov) quiet) form
+      ∙ ap (λ c. if c then reads_permitted l p rs at w no_telling else Fails (undefined_behaviour EffectiveTypes WrongType) (Some p.prov) w no_telling) permitted
+      ∙ ap (λ c. if c then Fails (undefined_behaviour Sequencing Unsequenced) (Some p.prov) w no_telling else worth_in w bytes_there l.shape (Some at.address) (Some p.prov) no_telling) (no_clash (access_to l p false) rs refl hr)
+      ∙ ap (λ (s : Shape). worth_in w bytes_there s (Some at.address) (Some p.prov) no_telling) form
       ∙ pointer_given w bytes_there q a p whole looked all
 
 pub pointer_some : (u : Stored) (w : World) (t : Ty) (p : Pointer) (spot : Reach) (size align : ℕ) (q : Pointer) (r : Option Found) → shape_of t ≡ shape.Pointer → fits_lvalue u t ≡ true
     → size ≡ (lvalue (setting_of u) t).size → align ≡ (lvalue (setting_of u) t).align → HasReached w.memory.table p size align false spot → permits (setting_of u) w (lvalue (setting_of u) t) spot false ≡ true
-    → w.memory.table.pending ≡ [] → whole_pointer (read w.memory.bytes spot.address size) ≡ Some q → IfSome r (λ v. found_worth v ≡ pointer q) → IfSome r (λ v. IsLooked w.memory.table (pointer q) q.address)
+    → w.memory.table.pending ≡ [] → whole_pointer (bytes_from w.memory.bytes spot.address size) ≡ Some q → IfSome r (λ v. found_worth v ≡ pointer q) → IfSome r (λ v. IsLooked w.memory.table (pointer q) q.address)
     → IfSome r (λ v. ReadsFrom u w t p (found_worth v))
 pointer_some u w t p spot size align q None form fits es ea reached permitted all whole value looked = tt
 pointer_some u w t p spot size align q (Some v) form fits es ea reached permitted all whole value looked =
@@ -151,4 +151,4 @@ pointer_some u w t p spot size align q (Some v) form fits es ea reached permitte
     subst (ReadsFrom u w t p) (sym value)
     (pointer_read u w t p spot form fits reached.known q q.address
     (subst (λ (n : ℕ). HasReached w.memory.table p l.size n false spot) ea (subst (λ (n : ℕ). HasReached w.memory.table p n align false spot) es reached))
-    permitted all (subst (λ (n : ℕ). whole_pointer (read w.memory.bytes spot.address n) ≡ Some q) es whole) looked)
+    permitted all (subst (λ (n : ℕ). whole_pointer (bytes_from w.memory.bytes spot.address n) ≡ Some q) es whole) looked)

@@ -11,19 +11,19 @@ use Rattle.pv_fault.specs.declared.faults.Clause.TheVariants as clause
 use Rattle.pv_fault.specs.declared.faults.Clause.TheVariants.{EffectiveTypes, Sequencing}
 use Rattle.pv_fault.specs.declared.faults.Reason.TheVariants as reason
 use Rattle.pv_fault.specs.declared.faults.Reason.TheVariants.{WrongType, Unsequenced}
-use Rattle.pv_num.specs.Kinds.{least, greatest, convert_of}
+use Rattle.pv_num.specs.Kinds.{least_member, greatest_member, convert_of}
 use Rattle.pv_prov.specs.declared.names.Prov.TheVariants.{Inst}
-use Rattle.pv_prov.specs.Names.{alone}
+use Rattle.pv_prov.specs.Names.{one_candidate}
 use Rattle.pv_inst.specs.declared.values.Info.{Info}
 use Rattle.pv_inst.specs.declared.values.Instance.{Instance}
 use Rattle.pv_inst.specs.declared.values.Test.TheVariants.{Live, Range}
 use Rattle.pv_inst.specs.declared.values.Miss.TheVariants.{Ended}
 use Rattle.pv_inst.specs.Table.{Table, instance_at}
 use Rattle.pv_inst.specs.Infos.{info_of}
-use Rattle.pv_inst.specs.Use.{passes, any_survives, miss_of, use_answer, untried, holds}
+use Rattle.pv_inst.specs.Use.{passes, any_survives, miss_of, use_answer, empty_use, holds}
 use Rattle.pv_inst.specs.SameParts.{made_passes}
 use Rattle.pv_shadow.specs.declared.byte.Byte.{Byte}
-use Rattle.pv_shadow.specs.Bytes.{read}
+use Rattle.pv_shadow.specs.Bytes.{bytes_from}
 use Rattle.pv_object.specs.declared.values.Pointer.{Pointer}
 use Rattle.pv_object.specs.declared.values.Reach.{Reach}
 use Rattle.pv_object.specs.declared.values.Stop.{Stop}
@@ -39,13 +39,13 @@ use Rattle.pv_typed.specs.declared.nodes.Typed.TheVariants as typed
 use Rattle.pv_typed.specs.TypedTree.{type_of}
 use Rattle.pv_typed.specs.Tables.{Stored}
 use Rattle.pv_typed.specs.NodeTrees.{expression_at}
-use Rattle.pv_seq.specs.Sequencing.{Access, clash, overlap, conflicts, rivals, noted}
+use Rattle.pv_seq.specs.Sequencing.{Access, clash, overlap, conflicts, rivals, with_access}
 use Rattle.pv_seq.specs.SequencingParts.{access_of}
 use Rattle.pv_world.specs.declared.got.Shape.{Shape}
 use Rattle.pv_world.specs.declared.got.Shape.TheVariants as shape
 use Rattle.pv_world.specs.Worlds.{Worth, World, with_table}
-use Rattle.pv_world.specs.Worths.{int, pointer, missing_value, undefined}
-use Rattle.pv_world.specs.Telling.{quiet, telling, uses, range_test, each_paired, each_exposed, exposures, pairings}
+use Rattle.pv_world.specs.Worths.{int, pointer, missing_value, undefined_behaviour}
+use Rattle.pv_world.specs.Telling.{no_telling, telling, uses, range_test, each_paired, each_exposed, exposures, pairings}
 use Rattle.pv_world.specs.Doing.{Answers, Fails}
 use Rattle.pv_world.specs.Accesses.{reaching_by, scalar_by, worth_in}
 use Rattle.pv_world.specs.AccessParts.{range_use}
@@ -56,7 +56,7 @@ use Rattle.pv_world.specs.Suiting.{knows}
 use Rattle.pv_eval.specs.Permission.{permits}
 use Rattle.pv_eval.specs.Accesses.{access_to, reads_permitted, reads_at, reads}
 use Rattle.pv_eval.specs.Operations.{Reads}
-use Rattle.pv_eval.specs.Sequenced.{done}
+use Rattle.pv_eval.specs.Sequenced.{node_value}
 use Rattle.pv_eval.specs.declared.plain.Found.{Found}
 use Rattle.pv_eval.specs.Plainly.{setting_by, AreReads, has_read, GivesReading, GivesNoting, ReadsFrom, alone_tried, HasReached, IsPlainNumber, found_worth}
 use Rattle.pv_inst.proofs.Rows.{row_found}
@@ -112,7 +112,7 @@ module _ (T : Table) (i a n : ℕ) (y : Info) (there : info_of (instance_at T.in
 
   pub used : use_answer T (Inst i) (Range a n) ≡ Ok alone_tried
   used =
-      ap (λ c. if c || false then Ok (record { pair = None; low = c; high = false }) else Err (if any_survives true T.instances (alone i) Live then miss_of (Range a n) else Ended))
+      ap (λ c. if c || false then Ok (record { pair = None; low = c; high = false }) else Err (if any_survives true T.instances (one_candidate i) Live then miss_of (Range a n) else Ended))
       (survives_by (instance_at T.instances i) there)
 
 -- a read of that range
@@ -172,19 +172,19 @@ module _ (w : World) (bytes : List Byte) (k : IntKind) (p : Pointer) (m : ℕ) (
   abbrev T : Table
   T = w.memory.table
 
-  load_is : integer_of T k bytes (number_in bytes) ≡ (Ok (IntValue (convert_of k (pos m)), untried), T)
+  load_is : integer_of T k bytes (number_in bytes) ≡ (Ok (IntValue (convert_of k (pos m)), empty_use), T)
   load_is =
       ap (integer_of T k bytes) is.0
-      ∙ ap (λ (c : Bool). if c then (Err (fault clause.Traps reason.Trap), T) else (Ok (IntValue (convert_of k (pos m)), untried), exposed_by T bytes)) trap
-      ∙ ap (λ (U : Table). (Ok (IntValue (convert_of k (pos m)), untried), U)) (is.1 T)
+      ∙ ap (λ (c : Bool). if c then (Err (fault clause.Traps reason.Trap), T) else (Ok (IntValue (convert_of k (pos m)), empty_use), exposed_by T bytes)) trap
+      ∙ ap (λ (U : Table). (Ok (IntValue (convert_of k (pos m)), empty_use), U)) (is.1 T)
 
-  pub scalar_given : scalar_by w bytes (shape.Int k) (Some p.prov) quiet (integer_of T k bytes (number_in bytes)) ≡ Answers (int z) w quiet
+  pub scalar_given : scalar_by w bytes (shape.Int k) (Some p.prov) no_telling (integer_of T k bytes (number_in bytes)) ≡ Answers (int z) w no_telling
   scalar_given =
-      ap (scalar_by w bytes (shape.Int k) (Some p.prov) quiet) load_is
+      ap (scalar_by w bytes (shape.Int k) (Some p.prov) no_telling) load_is
       ∙ ap (λ (q : List ℕ). Answers (int (convert_of k (pos m))) (with_table w (record T { pending = q })) (telling ([] ++ pairings T T ++ [] ++ exposures T))) (sym all)
       ∙ ap (λ ts. Answers (int (convert_of k (pos m))) w (telling ([] ++ each_paired T (length T.pairs + 1) ts ++ [] ++ exposures T))) (drop_all (length T.pairs) T.pairs (omega arith))
       ∙ ap (λ (q : List ℕ). Answers (int (convert_of k (pos m))) w (telling ([] ++ [] ++ [] ++ each_exposed q))) all
-      ∙ ap (λ (c : ℤ). Answers (int c) w quiet) (sym value)
+      ∙ ap (λ (c : ℤ). Answers (int c) w no_telling) (sym value)
 
 -- a read of an integer that was reached, is permitted and is a number
 module _ (u : Stored) (w : World) (t : Ty) (k : IntKind) (p : Pointer) (at : Reach) (form : shape_of t ≡ shape.Int k) (fits : fits_lvalue u t ≡ true) (known : knows w.memory.table p.prov ≡ true) where
@@ -192,39 +192,39 @@ module _ (u : Stored) (w : World) (t : Ty) (k : IntKind) (p : Pointer) (at : Rea
   l = lvalue (setting_of u) t
 
   abbrev bytes_there : List Byte
-  bytes_there = read w.memory.bytes at.address l.size
+  bytes_there = bytes_from w.memory.bytes at.address l.size
 
   pub number_read : (m : ℕ) (z : ℤ) → HasReached w.memory.table p l.size l.align false at → permits (setting_of u) w l at false ≡ true → w.memory.table.pending ≡ [] → IsPlainNumber bytes_there m → is_trap k m ≡ false → z ≡ convert_of k (pos m)
       → ReadsFrom u w t p (int z)
   number_read m z reached permitted all is trap value = λ bound sides zap rs hr.
       let b = setting_by u bound sides zap in
-      ap (λ c. if c then reads b l (pointer p) rs w else Fails missing_value None w quiet) (both_of (fits_lvalue u t) (knows w.memory.table p.prov) fits known)
+      ap (λ c. if c then reads b l (pointer p) rs w else Fails missing_value None w no_telling) (both_of (fits_lvalue u t) (knows w.memory.table p.prov) fits known)
       ∙ ap (λ x. reaching_by w p (range_use w.memory.table p l.size) x (reads_at b l p rs)) reached.is
       ∙ ap (λ x. reads_at b l p rs at w (telling (uses range_test x))) reached.used
-      ∙ ap (λ c. if c then reads_permitted l p rs at w quiet else Fails (undefined EffectiveTypes WrongType) (Some p.prov) w quiet) permitted
-      ∙ ap (λ c. if c then Fails (undefined Sequencing Unsequenced) (Some p.prov) w quiet else worth_in w bytes_there l.shape (Some at.address) (Some p.prov) quiet) (no_clash (access_to l p false) rs refl hr)
-      ∙ ap (λ (s : Shape). worth_in w bytes_there s (Some at.address) (Some p.prov) quiet) form
+      ∙ ap (λ c. if c then reads_permitted l p rs at w no_telling else Fails (undefined_behaviour EffectiveTypes WrongType) (Some p.prov) w no_telling) permitted
+      ∙ ap (λ c. if c then Fails (undefined_behaviour Sequencing Unsequenced) (Some p.prov) w no_telling else worth_in w bytes_there l.shape (Some at.address) (Some p.prov) no_telling) (no_clash (access_to l p false) rs refl hr)
+      ∙ ap (λ (s : Shape). worth_in w bytes_there s (Some at.address) (Some p.prov) no_telling) form
       ∙ scalar_given w bytes_there k p m z is trap value all
 
 -- a number that is no greater than the members of a kind is one
-least_below : (k : IntKind) (n : ℕ) → least k ≤ℤ pos n
+least_below : (k : IntKind) (n : ℕ) → least_member k ≤ℤ pos n
 least_below BoolKind n = grind (arith, ints)
 least_below Char n = grind (arith, ints)
 least_below _ n = grind (arith, ints)
 
-pub member_stays : (k : IntKind) (n : ℕ) → pos n ≤ℤ greatest k → convert_of k (pos n) ≡ pos n
+pub member_stays : (k : IntKind) (n : ℕ) → pos n ≤ℤ greatest_member k → convert_of k (pos n) ≡ pos n
 member_stays k n h = member_kept k (pos n) (least_below k n, h)
 
 pub read_some : (u : Stored) (w : World) (t : Ty) (k : IntKind) (p : Pointer) (spot : Reach) (size align m : ℕ) (z : ℤ) (r : Option Found) → shape_of t ≡ shape.Int k → fits_lvalue u t ≡ true
     → size ≡ (lvalue (setting_of u) t).size → align ≡ (lvalue (setting_of u) t).align → HasReached w.memory.table p size align false spot → permits (setting_of u) w (lvalue (setting_of u) t) spot false ≡ true
-    → w.memory.table.pending ≡ [] → IsPlainNumber (read w.memory.bytes spot.address size) m → is_trap k m ≡ false → z ≡ convert_of k (pos m) → IfSome r (λ q. found_worth q ≡ int z) → IfSome r (λ q. ReadsFrom u w t p (found_worth q))
+    → w.memory.table.pending ≡ [] → IsPlainNumber (bytes_from w.memory.bytes spot.address size) m → is_trap k m ≡ false → z ≡ convert_of k (pos m) → IfSome r (λ q. found_worth q ≡ int z) → IfSome r (λ q. ReadsFrom u w t p (found_worth q))
 read_some u w t k p spot size align m z None form fits es ea reached permitted all is trap value h = tt
 read_some u w t k p spot size align m z (Some q) form fits es ea reached permitted all is trap value h =
     let l = lvalue (setting_of u) t in
     subst (ReadsFrom u w t p) (sym h)
     (number_read u w t k p spot form fits reached.known m z
     (subst (λ (n : ℕ). HasReached w.memory.table p l.size n false spot) ea (subst (λ (n : ℕ). HasReached w.memory.table p n align false spot) es reached))
-    permitted all (subst (λ (n : ℕ). IsPlainNumber (read w.memory.bytes spot.address n) m) es is) trap value)
+    permitted all (subst (λ (n : ℕ). IsPlainNumber (bytes_from w.memory.bytes spot.address n) m) es is) trap value)
 
 -- a node that reads it
 pub read_given : (u : Stored) (w : World) (t : Ty) (a : NodeId) (p : Pointer) (v : Worth) → ReadsFrom u w (type_of (expression_at u a)) p v → GivesReading u w t (typed.Read a) (pointer p) v
@@ -239,7 +239,7 @@ read_given u w t a p v h = record {
       record {
         reads = reads_both gs (access_to l p false ∷ []) hg (refl, tt);
         is =
-            ap (λ r. then_do r (λ v s. done (noted (access_to l p false) j) v s))
+            ap (λ r. then_do r (λ v s. node_value (with_access (access_to l p false) j) v s))
             (act_gives w out es n b line (Reads l (pointer p) (rivals j)) v (h bound sides zap (fs ++ []) (reads_both fs [] hf tt)));
       };
 }

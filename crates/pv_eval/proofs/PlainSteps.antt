@@ -8,7 +8,7 @@ use Rattle.pv_typed.specs.TypedTree.{TypedTree, Node, Form, type_of, line_of, fo
 use Rattle.pv_typed.specs.Trees.{takes_turn}
 use Rattle.pv_typed.specs.Tables.{Stored, nodes}
 use Rattle.pv_typed.specs.NodeTrees.{expression_at}
-use Rattle.pv_typed.specs.Plain.{counted, both, turns_of, turns_of_form}
+use Rattle.pv_typed.specs.Plain.{with_own_turn, sum_of_turns, turns_of, turns_of_form}
 use Rattle.pv_seq.specs.Sequencing.{Access, Open}
 use Rattle.pv_world.specs.Worlds.{Worth, World}
 use Rattle.pv_eval.specs.declared.marked.Marked.{Marked}
@@ -18,7 +18,7 @@ use Rattle.pv_eval.specs.Steps.{Calling, takes, tick_if}
 use Rattle.pv_eval.specs.Evaluation.{ev, ev_form}
 use Rattle.pv_eval.specs.Frames.{first_after, second_after}
 use Rattle.pv_eval.specs.Ahead.{first_operand_of, second_operand_of}
-use Rattle.pv_eval.specs.Plainly.{setting_by, turned, AreReads, has_read, OnlyReads, Yields, form_by, turns_at, GivesAlone, GivesWith, GivesReading, GivesWithBoth, YieldsNoting, GivesNoting, found_worth}
+use Rattle.pv_eval.specs.Plainly.{setting_by, state_with, AreReads, has_read, OnlyReads, Yields, form_by, turns_at, GivesAlone, GivesWith, GivesReading, GivesWithBoth, YieldsNoting, GivesNoting, found_worth}
 use Rattle.pv_eval.specs.declared.plain.Found.{Found}
 use Rattle.pv_eval.proofs.Cases.{ev-node, begins, goes-on}
 
@@ -40,7 +40,7 @@ abbrev pub with_turn : Bool → ℕ → ℕ
 with_turn true n = n + 1
 with_turn false n = n
 
-counted_some : (c : Bool) (k : ℕ) → counted c (Some k) ≡ Some (with_turn c k)
+counted_some : (c : Bool) (k : ℕ) → with_own_turn c (Some k) ≡ Some (with_turn c k)
 counted_some true k = refl
 counted_some false k = refl
 
@@ -60,26 +60,26 @@ module _ (u : Stored) (w : World) (call : Calling) (bound : ℕ) (sides : Option
   b = setting_by u bound sides zap
 
   -- the turn of a node is taken
-  ticked : {A : Type 0} (c : Bool) (n : ℕ) (go : State → Res A) → with_turn c n ≤ bound → tick_if c b (turned w out es n) go ≡ go (turned w out es (with_turn c n))
-  ticked true n go h = ap (λ t. if t then go (spend (turned w out es n)) else Stops Turns (turned w out es n)) (lt-ltb n bound (omega (arith, h)))
+  ticked : {A : Type 0} (c : Bool) (n : ℕ) (go : State → Res A) → with_turn c n ≤ bound → tick_if c b (state_with w out es n) go ≡ go (state_with w out es (with_turn c n))
+  ticked true n go h = ap (λ t. if t then go (spend (state_with w out es n)) else Stops Turns (state_with w out es n)) (lt-ltb n bound (omega (arith, h)))
   ticked false n go h = refl
 
   -- or there is none left, or too few behind it
   stopped : {A : Type 0} (c : Bool) (n k : ℕ) (go : State → Res A) → n ≤ bound → bound < n + with_turn c k
-      → (with_turn c n ≤ bound → bound < with_turn c n + k → go (turned w out es (with_turn c n)) ≡ Stops Turns (turned w out es bound)) → tick_if c b (turned w out es n) go ≡ Stops Turns (turned w out es bound)
+      → (with_turn c n ≤ bound → bound < with_turn c n + k → go (state_with w out es (with_turn c n)) ≡ Stops Turns (state_with w out es bound)) → tick_if c b (state_with w out es n) go ≡ Stops Turns (state_with w out es bound)
   stopped false n k go low high h = h low high
   stopped true n k go low high h =
       ⊎_elim
       (λ lt. ticked true n go (omega (arith, lt)) ∙ h (omega (arith, lt)) (omega (arith, high)))
       (λ le.
       let last : n ≡ bound = omega (arith, low, le) in
-      ap (λ t. if t then go (spend (turned w out es n)) else Stops Turns (turned w out es n)) (le-ltb n bound le) ∙ ap (λ m. Stops Turns (turned w out es m)) last)
+      ap (λ t. if t then go (spend (state_with w out es n)) else Stops Turns (state_with w out es n)) (le-ltb n bound le) ∙ ap (λ m. Stops Turns (state_with w out es m)) last)
       (cases_lt n bound)
 
   -- an operand, and then what follows
   pub operand_only : (x : TypedTree) (first v : Worth) (y : Yields u w x first) (fs gs all : List Access) (n : ℕ) (go : Open → Worth → State → Res Given) (s : State) → AreReads fs → AreReads gs → n + y.turns ≤ bound
-      → (AreReads y.accesses → OnlyReads (go (has_read fs (gs ++ y.accesses)) first (turned w out es (n + y.turns))) all v s)
-      → OnlyReads (operand (ev b call x) (has_read fs gs) (turned w out es n) go) all v s
+      → (AreReads y.accesses → OnlyReads (go (has_read fs (gs ++ y.accesses)) first (state_with w out es (n + y.turns))) all v s)
+      → OnlyReads (operand (ev b call x) (has_read fs gs) (state_with w out es n) go) all v s
   operand_only x first v y fs gs all n go s hf hg room k =
       let g = y.gives call bound sides zap (fs ++ gs) out es n (reads_both fs gs hf hg) room in
       let h = k g.reads in
@@ -90,8 +90,8 @@ module _ (u : Stored) (w : World) (call : Calling) (bound : ℕ) (sides : Option
 
   -- an operand that stops, or what follows it
   pub operand_stops : (x : TypedTree) (first : Worth) (y : Yields u w x first) (fs gs : List Access) (n k : ℕ) (go : Open → Worth → State → Res Given) → AreReads fs → AreReads gs → n ≤ bound → bound < n + (y.turns + k)
-      → (n + y.turns ≤ bound → (more : List Access) → AreReads more → go (has_read fs (gs ++ more)) first (turned w out es (n + y.turns)) ≡ Stops Turns (turned w out es bound))
-      → operand (ev b call x) (has_read fs gs) (turned w out es n) go ≡ Stops Turns (turned w out es bound)
+      → (n + y.turns ≤ bound → (more : List Access) → AreReads more → go (has_read fs (gs ++ more)) first (state_with w out es (n + y.turns)) ≡ Stops Turns (state_with w out es bound))
+      → operand (ev b call x) (has_read fs gs) (state_with w out es n) go ≡ Stops Turns (state_with w out es bound)
   operand_stops x first y fs gs n k go hf hg low high h =
       let after = λ (r : Res Given). then_do r (λ (g : Given) s. go (with_given (has_read fs gs) g) g.value s) in
       ⊎_elim
@@ -103,25 +103,25 @@ module _ (u : Stored) (w : World) (call : Calling) (bound : ℕ) (sides : Option
 
   -- a node begins: its turn first
   pub node_begun : (x : TypedTree) (f : Form) (fs : List Access) (n k : ℕ) → form_of x ≡ f → n + with_turn (takes (takes_turn x) f) k ≤ bound
-      → ev b call x fs (turned w out es n) ≡ ev_form b call (type_of x) (line_of x) f fs (turned w out es (with_turn (takes (takes_turn x) f) n))
+      → ev b call x fs (state_with w out es n) ≡ ev_form b call (type_of x) (line_of x) f fs (state_with w out es (with_turn (takes (takes_turn x) f) n))
   node_begun x f fs n k form room =
-      ev-node b call fs x (turned w out es n)
-      ∙ ap (λ (g : Form). tick_if (takes (takes_turn x) g) b (turned w out es n) (ev_form b call (type_of x) (line_of x) g fs)) form
+      ev-node b call fs x (state_with w out es n)
+      ∙ ap (λ (g : Form). tick_if (takes (takes_turn x) g) b (state_with w out es n) (ev_form b call (type_of x) (line_of x) g fs)) form
       ∙ ticked (takes (takes_turn x) f) n (ev_form b call (type_of x) (line_of x) f fs) (omega (arith, turn_room (takes (takes_turn x) f) n k bound room))
 
   -- or it stops
   pub node_stops : (x : TypedTree) (f : Form) (fs : List Access) (n k : ℕ) → form_of x ≡ f → n ≤ bound → bound < n + with_turn (takes (takes_turn x) f) k
       → (with_turn (takes (takes_turn x) f) n ≤ bound → bound < with_turn (takes (takes_turn x) f) n + k
-      → ev_form b call (type_of x) (line_of x) f fs (turned w out es (with_turn (takes (takes_turn x) f) n)) ≡ Stops Turns (turned w out es bound))
-      → ev b call x fs (turned w out es n) ≡ Stops Turns (turned w out es bound)
+      → ev_form b call (type_of x) (line_of x) f fs (state_with w out es (with_turn (takes (takes_turn x) f) n)) ≡ Stops Turns (state_with w out es bound))
+      → ev b call x fs (state_with w out es n) ≡ Stops Turns (state_with w out es bound)
   node_stops x f fs n k form low high h =
-      ev-node b call fs x (turned w out es n)
-      ∙ ap (λ (g : Form). tick_if (takes (takes_turn x) g) b (turned w out es n) (ev_form b call (type_of x) (line_of x) g fs)) form
+      ev-node b call fs x (state_with w out es n)
+      ∙ ap (λ (g : Form). tick_if (takes (takes_turn x) g) b (state_with w out es n) (ev_form b call (type_of x) (line_of x) g fs)) form
       ∙ stopped (takes (takes_turn x) f) n k (ev_form b call (type_of x) (line_of x) f fs) low high h
 
   -- the turn of the node comes before those of its operands
-  in_order : (r : Res Given) (all : List Access) (v : Worth) (c : Bool) (n k : ℕ) → OnlyReads r all v (turned w out es (with_turn c n + k)) → OnlyReads r all v (turned w out es (n + with_turn c k))
-  in_order r all v c n k h = subst (λ m. OnlyReads r all v (turned w out es m)) (turn_first c n k) h
+  in_order : (r : Res Given) (all : List Access) (v : Worth) (c : Bool) (n k : ℕ) → OnlyReads r all v (state_with w out es (with_turn c n + k)) → OnlyReads r all v (state_with w out es (n + with_turn c k))
+  in_order r all v c n k h = subst (λ m. OnlyReads r all v (state_with w out es m)) (turn_first c n k) h
 
 module _ (u : Stored) (w : World) (n : NodeId) (x : Typed) (form : form_of (expression_at u n) ≡ form_by u x) where
   abbrev tree : TypedTree
@@ -130,12 +130,12 @@ module _ (u : Stored) (w : World) (n : NodeId) (x : Typed) (form : form_of (expr
   abbrev takes_one : Bool
   takes_one = takes (takes_turn tree) (form_by u x)
 
-  turns_are : (o : Option ℕ) (k : ℕ) → ((turn : Bool) → turns_of_form turn (form_by u x) ≡ counted (takes turn (form_by u x)) o) → o ≡ Some k → turns_of tree ≡ Some (with_turn takes_one k)
+  turns_are : (o : Option ℕ) (k : ℕ) → ((turn : Bool) → turns_of_form turn (form_by u x) ≡ with_own_turn (takes turn (form_by u x)) o) → o ≡ Some k → turns_of tree ≡ Some (with_turn takes_one k)
   turns_are o k h e =
       turns_node tree
       ∙ ap (turns_of_form (takes_turn tree)) form
       ∙ h (takes_turn tree)
-      ∙ ap (counted takes_one) e
+      ∙ ap (with_own_turn takes_one) e
       ∙ counted_some takes_one k
 
   -- a node without operands
@@ -151,7 +151,7 @@ module _ (u : Stored) (w : World) (n : NodeId) (x : Typed) (form : form_of (expr
           let one : with_turn takes_one 0 ≡ 1 = ap (λ c. with_turn c 0) (h.takes (takes_turn tree)) in
           let at : with_turn takes_one m ≡ m + 1 = ap (λ c. with_turn c m) (h.takes (takes_turn tree)) in
           node_begun u w call bound sides zap out es tree (form_by u x) fs m 0 form (omega (arith, one, room))
-          ∙ ap (λ k. ev_form (setting_by u bound sides zap) call (type_of tree) (line_of tree) (form_by u x) fs (turned w out es k)) at
+          ∙ ap (λ k. ev_form (setting_by u bound sides zap) call (type_of tree) (line_of tree) (form_by u x) fs (state_with w out es k)) at
           ∙ h.gives call bound sides zap (type_of tree) (line_of tree) fs out es (m + 1);
     };
     stops = λ call bound sides zap fs out es m hf low high.
@@ -172,14 +172,14 @@ module _ (u : Stored) (w : World) (n : NodeId) (x : Typed) (form : form_of (expr
         in_order u w call bound sides zap out es _ y.accesses v c m y.turns
         (only_from _ _ y.accesses v _
         (node_begun u w call bound sides zap out es tree (form_by u x) fs m y.turns form room
-        ∙ begins b call (type_of tree) (line_of tree) u.lists (nodes u) fs (turned w out es (with_turn c m)) x a has)
+        ∙ begins b call (type_of tree) (line_of tree) u.lists (nodes u) fs (state_with w out es (with_turn c m)) x a has)
         (operand_only u w call bound sides zap out es (expression_at u a) first v y fs [] y.accesses (with_turn c m) (first_after b call (type_of tree) (line_of tree) (form_by u x)) _ hf tt (turn_room c m y.turns bound room)
         (λ hm. h.gives call bound sides zap (line_of tree) fs y.accesses out es (with_turn c m + y.turns) hf hm)));
     stops = λ call bound sides zap fs out es m hf low high.
         let b = setting_by u bound sides zap in
         let n = with_turn takes_one m in
         node_stops u w call bound sides zap out es tree (form_by u x) fs m y.turns form low high (λ below above.
-        begins b call (type_of tree) (line_of tree) u.lists (nodes u) fs (turned w out es n) x a has
+        begins b call (type_of tree) (line_of tree) u.lists (nodes u) fs (state_with w out es n) x a has
         ∙ operand_stops u w call bound sides zap out es (expression_at u a) first y fs [] n 0 (first_after b call (type_of tree) (line_of tree) (form_by u x)) hf tt below (omega (arith, above)) (λ le more hm. absurd (omega (arith, le, above))));
   }
 
@@ -196,14 +196,14 @@ module _ (u : Stored) (w : World) (n : NodeId) (x : Typed) (form : form_of (expr
         in_order u w call bound sides zap out es _ (y.accesses ++ h.own ∷ []) v c m y.turns
         (only_from _ _ (y.accesses ++ h.own ∷ []) v _
         (node_begun u w call bound sides zap out es tree (form_by u x) fs m y.turns form room
-        ∙ begins b call (type_of tree) (line_of tree) u.lists (nodes u) fs (turned w out es (with_turn c m)) x a has)
+        ∙ begins b call (type_of tree) (line_of tree) u.lists (nodes u) fs (state_with w out es (with_turn c m)) x a has)
         (operand_only u w call bound sides zap out es (expression_at u a) first v y fs [] (y.accesses ++ h.own ∷ []) (with_turn c m) (first_after b call (type_of tree) (line_of tree) (form_by u x)) _ hf tt (turn_room c m y.turns bound room)
         (λ hm. h.gives call bound sides zap (line_of tree) fs y.accesses out es (with_turn c m + y.turns) hf hm)));
     stops = λ call bound sides zap fs out es m hf low high.
         let b = setting_by u bound sides zap in
         let n = with_turn takes_one m in
         node_stops u w call bound sides zap out es tree (form_by u x) fs m y.turns form low high (λ below above.
-        begins b call (type_of tree) (line_of tree) u.lists (nodes u) fs (turned w out es n) x a has
+        begins b call (type_of tree) (line_of tree) u.lists (nodes u) fs (state_with w out es n) x a has
         ∙ operand_stops u w call bound sides zap out es (expression_at u a) first y fs [] n 0 (first_after b call (type_of tree) (line_of tree) (form_by u x)) hf tt below (omega (arith, above)) (λ le more hm. absurd (omega (arith, le, above))));
   }
 
@@ -212,8 +212,8 @@ module _ (u : Stored) (w : World) (n : NodeId) (x : Typed) (form : form_of (expr
       → GivesWithBoth u w (type_of tree) x first second v → Yields u w tree v
   yields_with_both a d first second v has also y z h = record {
     turns = with_turn takes_one (y.turns + z.turns);
-    are = turns_are (both (turns_at u (first_operand_of x)) (turns_at u (second_operand_of x))) (y.turns + z.turns) h.turns
-        (ap (λ o. both o (turns_at u (second_operand_of x))) (ap (turns_at u) has ∙ y.are) ∙ ap (both (Some y.turns)) (ap (turns_at u) also ∙ z.are));
+    are = turns_are (sum_of_turns (turns_at u (first_operand_of x)) (turns_at u (second_operand_of x))) (y.turns + z.turns) h.turns
+        (ap (λ o. sum_of_turns o (turns_at u (second_operand_of x))) (ap (turns_at u) has ∙ y.are) ∙ ap (sum_of_turns (Some y.turns)) (ap (turns_at u) also ∙ z.are));
     accesses = y.accesses ++ z.accesses;
     only = reads_both y.accesses z.accesses y.only z.only;
     gives = λ call bound sides zap fs out es m hf room.
@@ -223,22 +223,22 @@ module _ (u : Stored) (w : World) (n : NodeId) (x : Typed) (form : form_of (expr
         let left = turn_room c m (y.turns + z.turns) bound room in
         let last : with_turn c m + y.turns + z.turns ≡ with_turn c m + (y.turns + z.turns) = omega arith in
         in_order u w call bound sides zap out es _ all v c m (y.turns + z.turns)
-        (subst (λ k. OnlyReads (ev b call tree fs (turned w out es m)) all v (turned w out es k)) last
+        (subst (λ k. OnlyReads (ev b call tree fs (state_with w out es m)) all v (state_with w out es k)) last
         (only_from _ _ all v _
         (node_begun u w call bound sides zap out es tree (form_by u x) fs m (y.turns + z.turns) form room
-        ∙ begins b call (type_of tree) (line_of tree) u.lists (nodes u) fs (turned w out es (with_turn c m)) x a has)
+        ∙ begins b call (type_of tree) (line_of tree) u.lists (nodes u) fs (state_with w out es (with_turn c m)) x a has)
         (operand_only u w call bound sides zap out es (expression_at u a) first v y fs [] all (with_turn c m) (first_after b call (type_of tree) (line_of tree) (form_by u x)) _ hf tt (omega (arith, left))
         (λ hm. only_from _ _ all v _
-        (goes-on b call (type_of tree) (line_of tree) u.lists (nodes u) fs (turned w out es (with_turn c m + y.turns)) (has_read fs y.accesses) first x d also)
+        (goes-on b call (type_of tree) (line_of tree) u.lists (nodes u) fs (state_with w out es (with_turn c m + y.turns)) (has_read fs y.accesses) first x d also)
         (operand_only u w call bound sides zap out es (expression_at u d) second v z fs y.accesses all (with_turn c m + y.turns) (second_after b call (type_of tree) (line_of tree) (form_by u x) first) _ hf hm (omega (arith, left))
         (λ hr. h.gives call bound sides zap (line_of tree) fs all out es (with_turn c m + y.turns + z.turns) hf (reads_both y.accesses z.accesses hm hr)))))));
     stops = λ call bound sides zap fs out es m hf low high.
         let b = setting_by u bound sides zap in
         let n = with_turn takes_one m in
         node_stops u w call bound sides zap out es tree (form_by u x) fs m (y.turns + z.turns) form low high (λ below above.
-        begins b call (type_of tree) (line_of tree) u.lists (nodes u) fs (turned w out es n) x a has
+        begins b call (type_of tree) (line_of tree) u.lists (nodes u) fs (state_with w out es n) x a has
         ∙ operand_stops u w call bound sides zap out es (expression_at u a) first y fs [] n z.turns (first_after b call (type_of tree) (line_of tree) (form_by u x)) hf tt below above (λ le more hm.
-        goes-on b call (type_of tree) (line_of tree) u.lists (nodes u) fs (turned w out es (n + y.turns)) (has_read fs more) first x d also
+        goes-on b call (type_of tree) (line_of tree) u.lists (nodes u) fs (state_with w out es (n + y.turns)) (has_read fs more) first x d also
         ∙ operand_stops u w call bound sides zap out es (expression_at u d) second z fs more (n + y.turns) 0 (second_after b call (type_of tree) (line_of tree) (form_by u x) first) hf hm le (omega (arith, above))
         (λ more' rest hr. absurd (omega (arith, more', above)))));
   }

@@ -13,13 +13,13 @@ use Rattle.pv_typed.specs.declared.nodes.Typed.TheVariants as typed
 use Rattle.pv_typed.specs.TypedTree.{TypedTree, Node, Form, Assign, CompoundAssign, PointerAssign, Increment, Read, type_of, line_of, form_of}
 use Rattle.pv_typed.specs.Tables.{Stored, nodes}
 use Rattle.pv_typed.specs.NodeTrees.{expression_at}
-use Rattle.pv_typed.specs.Plain.{counted, both, capped, turns_of}
-use Rattle.pv_seq.specs.Sequencing.{Access, Open, rivals, noted}
+use Rattle.pv_typed.specs.Plain.{with_own_turn, sum_of_turns, turns_within, turns_of}
+use Rattle.pv_seq.specs.Sequencing.{Access, Open, rivals, with_access}
 use Rattle.pv_world.specs.declared.got.Shape.{Shape}
 use Rattle.pv_world.specs.Worlds.{Worth, World}
-use Rattle.pv_world.specs.Worths.{int, pointer, null_pointer, missing_value, undefined, present}
+use Rattle.pv_world.specs.Worths.{int, pointer, null_pointer, missing_value, undefined_behaviour, on_present_value}
 use Rattle.pv_world.specs.Objects.{put_at}
-use Rattle.pv_world.specs.Telling.{quiet, telling, uses, range_test}
+use Rattle.pv_world.specs.Telling.{no_telling, telling, uses, range_test}
 use Rattle.pv_world.specs.Doing.{Done, Answers, Fails}
 use Rattle.pv_world.specs.Accesses.{reaching_by, stored_as}
 use Rattle.pv_world.specs.AccessParts.{range_use}
@@ -27,18 +27,18 @@ use Rattle.pv_eval.specs.declared.marked.Marked.{Marked}
 use Rattle.pv_eval.specs.declared.plain.Found.{Found}
 use Rattle.pv_eval.specs.declared.plain.Found.TheVariants as found
 use Rattle.pv_eval.specs.States.{Setting, State, Res, Gives, then_do}
-use Rattle.pv_eval.specs.Acting.{noted as told_of, pair_count, by_side, answered, acted}
+use Rattle.pv_eval.specs.Acting.{after_telling as told_of, pair_count, by_side, answer_with_sides, after_doing}
 use Rattle.pv_eval.specs.TypeForms.{Lvalue, lvalue}
 use Rattle.pv_eval.specs.Sizes.{setting_of}
 use Rattle.pv_world.specs.Suiting.{is_stored, knows_worth}
 use Rattle.pv_eval.specs.Permission.{permits}
 use Rattle.pv_eval.specs.Accesses.{access_to, writes_permitted, writes_at, writes_to, writes}
 use Rattle.pv_eval.specs.Operations.{Op, Writes, does, act}
-use Rattle.pv_eval.specs.Sequenced.{Given, with_given, done, operand}
+use Rattle.pv_eval.specs.Sequenced.{Given, with_given, node_value, operand}
 use Rattle.pv_eval.specs.Steps.{Calling, source_of, writing}
 use Rattle.pv_eval.specs.Evaluation.{ev}
 use Rattle.pv_eval.specs.Frames.{first_after, second_after}
-use Rattle.pv_eval.specs.Plainly.{setting_by, turned, AreReads, has_read, Yields, form_by, GivesValue, whole_turns, Performs, WritesTo, StoresAt, IsConverted, HasReached, found_worth}
+use Rattle.pv_eval.specs.Plainly.{setting_by, state_with, AreReads, has_read, Yields, form_by, GivesValue, whole_turns, Performs, WritesTo, StoresAt, IsConverted, HasReached, found_worth}
 use Rattle.pv_eval.proofs.Cases.{begins, goes-on}
 use Rattle.pv_world.proofs.Guards.{both_of}
 use Rattle.pv_eval.proofs.Through.{fits_lvalue}
@@ -64,7 +64,7 @@ performs_plain u w new x v same y = subst (λ (z : World). Performs u w z x v) (
 })
 
 -- how many turns are kept
-pub capped_some : (o : Option ℕ) (k : ℕ) → Some k ≡ capped o → o ≡ Some k
+pub capped_some : (o : Option ℕ) (k : ℕ) → Some k ≡ turns_within o → o ≡ Some k
 capped_some None k e = absurd cc
 capped_some (Some n) k e = by (nat_le n 1000) e
   where
@@ -72,17 +72,17 @@ capped_some (Some n) k e = by (nat_le n 1000) e
     by true e = sym e
     by false e = absurd cc
 
-pub plain_whole : (x : TypedTree) (k : ℕ) → Some k ≡ capped (turns_of x) → whole_turns x ≡ Some k
+pub plain_whole : (x : TypedTree) (k : ℕ) → Some k ≡ turns_within (turns_of x) → whole_turns x ≡ Some k
 plain_whole x k e = turns_plain x k (capped_some (turns_of x) k e)
 
 -- the turns of operands, and that of their node
-pub both_turns : (y z : TypedTree) (j k : ℕ) → Some j ≡ capped (turns_of y) → Some k ≡ capped (turns_of z) → counted true (both (turns_of y) (turns_of z)) ≡ Some (j + k + 1)
+pub both_turns : (y z : TypedTree) (j k : ℕ) → Some j ≡ turns_within (turns_of y) → Some k ≡ turns_within (turns_of z) → with_own_turn true (sum_of_turns (turns_of y) (turns_of z)) ≡ Some (j + k + 1)
 both_turns y z j k e h =
-    ap (λ o. counted true (both o (turns_of z))) (capped_some (turns_of y) j e)
-    ∙ ap (λ o. counted true (both (Some j) o)) (capped_some (turns_of z) k h)
+    ap (λ o. with_own_turn true (sum_of_turns o (turns_of z))) (capped_some (turns_of y) j e)
+    ∙ ap (λ o. with_own_turn true (sum_of_turns (Some j) o)) (capped_some (turns_of z) k h)
 
-pub one_turns : (y : TypedTree) (j : ℕ) → Some j ≡ capped (turns_of y) → counted true (turns_of y) ≡ Some (j + 1)
-one_turns y j e = ap (counted true) (capped_some (turns_of y) j e)
+pub one_turns : (y : TypedTree) (j : ℕ) → Some j ≡ turns_within (turns_of y) → with_own_turn true (turns_of y) ≡ Some (j + 1)
+one_turns y j e = ap (with_own_turn true) (capped_some (turns_of y) j e)
 
 -- the turns of a root, by its form
 pub root_whole : (x : TypedTree) (f : Form) (o : Option ℕ) → form_of x ≡ f → ((t : Ty) (line : ℕ) (turn : Bool) → whole_turns (Node t line turn f) ≡ o) → whole_turns x ≡ o
@@ -97,17 +97,17 @@ module _ (w : World) (a : ℕ) (bytes : List Byte) (out : List ℕ) (es : List M
   abbrev new : World
   new = put_at w a bytes
 
-  told_nothing : told_of new quiet (turned w out es n) ≡ turned new out es n
-  told_nothing = ap (λ (o : List ℕ). turned new o (es ++ []) n) (append-nil out) ∙ ap (λ (e : List Marked). turned new out e n) (append-nil es)
+  told_nothing : told_of new no_telling (state_with w out es n) ≡ state_with new out es n
+  told_nothing = ap (λ (o : List ℕ). state_with new o (es ++ []) n) (append-nil out) ∙ ap (λ (e : List Marked). state_with new out e n) (append-nil es)
 
-  answered_put : (sides : Option (List Bool)) (v : Worth) (line : ℕ) → answered sides v line new quiet (turned w out es n) ≡ Gives v (turned new out es n)
+  answered_put : (sides : Option (List Bool)) (v : Worth) (line : ℕ) → answer_with_sides sides v line new no_telling (state_with w out es n) ≡ Gives v (state_with new out es n)
   answered_put None v line = ap (Gives v) told_nothing
   answered_put (Some sides) v line =
-      ap (λ c. if c then by_side (slice_get sides (pair_count w)) v line new quiet (turned w out es n) else Gives v (told_of new quiet (turned w out es n))) (not_less (pair_count w))
+      ap (λ c. if c then by_side (slice_get sides (pair_count w)) v line new no_telling (state_with w out es n) else Gives v (told_of new no_telling (state_with w out es n))) (not_less (pair_count w))
       ∙ ap (Gives v) told_nothing
 
-  pub act_puts : (b : Setting) (line : ℕ) (op : Op) (v : Worth) → does b op w ≡ Answers v new quiet → act b line op (turned w out es n) ≡ Gives v (turned new out es n)
-  act_puts b line op v h = ap (λ d. acted b line d (turned w out es n)) h ∙ answered_put b.sides v line
+  pub act_puts : (b : Setting) (line : ℕ) (op : Op) (v : Worth) → does b op w ≡ Answers v new no_telling → act b line op (state_with w out es n) ≡ Gives v (state_with new out es n)
+  act_puts b line op v h = ap (λ d. after_doing b line d (state_with w out es n)) h ∙ answered_put b.sides v line
 
 -- the operand of a store was read from no structure
 from_nowhere : (x : TypedTree) (v : Found) → source_of x (found_worth v) ≡ None
@@ -122,8 +122,8 @@ value_from r r' v s e h = record { given = h.given; value = h.value; is = e ∙ 
 -- an operand, and then what follows
 pub operand_value : (u : Stored) (w : World) (call : Calling) (bound : ℕ) (sides : Option (List Bool)) (zap : Bool) (out : List ℕ) (es : List Marked) (x : TypedTree) (first v : Worth) (y : Yields u w x first) (gs : List Access) (n : ℕ)
     (go : Open → Worth → State → Res Given) (s : State) → AreReads gs → n + y.turns ≤ bound
-    → ((more : List Access) → AreReads more → GivesValue (go (has_read [] (gs ++ more)) first (turned w out es (n + y.turns))) v s)
-    → GivesValue (operand (ev (setting_by u bound sides zap) call x) (has_read [] gs) (turned w out es n) go) v s
+    → ((more : List Access) → AreReads more → GivesValue (go (has_read [] (gs ++ more)) first (state_with w out es (n + y.turns))) v s)
+    → GivesValue (operand (ev (setting_by u bound sides zap) call x) (has_read [] gs) (state_with w out es n) go) v s
 operand_value u w call bound sides zap out es x first v y gs n go s hg room k =
     let g = y.gives call bound sides zap gs out es n hg room in
     value_from _ _ v s (ap (λ r. then_do r (λ (g : Given) s. go (with_given (has_read [] gs) g) g.value s)) g.is) (k y.accesses g.reads)
@@ -144,13 +144,13 @@ performs_assign u w new m a d p second v form y z hv st =
           let line = line_of x in
           let after = put_at w p.address st.bytes in
           let last : n + 1 + y.turns + z.turns ≡ n + (y.turns + z.turns + 1) = omega arith in
-          subst (λ k. GivesValue (ev b call x [] (turned w out es n)) (found_worth v) (turned after out es k)) last
+          subst (λ k. GivesValue (ev b call x [] (state_with w out es n)) (found_worth v) (state_with after out es k)) last
           (value_from _ _ (found_worth v) _
           (node_begun u w call bound sides zap out es x (form_by u (typed.Assign a d)) [] n (y.turns + z.turns) form (omega (arith, room))
-          ∙ begins b call t line u.lists (nodes u) [] (turned w out es (n + 1)) (typed.Assign a d) a refl)
+          ∙ begins b call t line u.lists (nodes u) [] (state_with w out es (n + 1)) (typed.Assign a d) a refl)
           (operand_value u w call bound sides zap out es xa (pointer p) (found_worth v) y [] (n + 1) (first_after b call t line (form_by u (typed.Assign a d))) _ tt (omega (arith, room))
           (λ more hm. value_from _ _ (found_worth v) _
-          (goes-on b call t line u.lists (nodes u) [] (turned w out es (n + 1 + y.turns)) (has_read [] more) (pointer p) (typed.Assign a d) d refl)
+          (goes-on b call t line u.lists (nodes u) [] (state_with w out es (n + 1 + y.turns)) (has_read [] more) (pointer p) (typed.Assign a d) d refl)
           (operand_value u w call bound sides zap out es xd (found_worth second) (found_worth v) z more (n + 1 + y.turns) (second_after b call t line (form_by u (typed.Assign a d)) (pointer p)) _ hm (omega (arith, room))
           (λ rest hr.
           let l = lvalue b (type_of xa) in
@@ -160,18 +160,18 @@ performs_assign u w new m a d p second v form y z hv st =
             given = record { value = found_worth v; all = (more ++ rest) ++ access_to l p true ∷ []; loose = access_to l p true ∷ [] };
             value = refl;
             is =
-                ap (λ r. then_do r (λ v s. writing b l line (pointer p) v (source_of xd v) j s done)) (hv b w out es k)
-                ∙ ap (λ o. then_do (act b line (Writes l (pointer p) (found_worth v) o (rivals j)) (turned w out es k)) (λ v s. done (noted (access_to l p true) j) v s)) (from_nowhere xd v)
-                ∙ ap (λ r. then_do r (λ v s. done (noted (access_to l p true) j) v s)) (act_puts w p.address st.bytes out es k b line (Writes l (pointer p) (found_worth v) None []) (found_worth v) (st.writes bound sides zap));
+                ap (λ r. then_do r (λ v s. writing b l line (pointer p) v (source_of xd v) j s node_value)) (hv b w out es k)
+                ∙ ap (λ o. then_do (act b line (Writes l (pointer p) (found_worth v) o (rivals j)) (state_with w out es k)) (λ v s. node_value (with_access (access_to l p true) j) v s)) (from_nowhere xd v)
+                ∙ ap (λ r. then_do r (λ v s. node_value (with_access (access_to l p true) j) v s)) (act_puts w p.address st.bytes out es k b line (Writes l (pointer p) (found_worth v) None []) (found_worth v) (st.writes bound sides zap));
           })))));
       stops = λ call bound sides zap out es n low high.
           let b = setting_by u bound sides zap in
           let t = type_of x in
           let line = line_of x in
           node_stops u w call bound sides zap out es x (form_by u (typed.Assign a d)) [] n (y.turns + z.turns) form low (omega (arith, high)) (λ below above.
-          begins b call t line u.lists (nodes u) [] (turned w out es (n + 1)) (typed.Assign a d) a refl
+          begins b call t line u.lists (nodes u) [] (state_with w out es (n + 1)) (typed.Assign a d) a refl
           ∙ operand_stops u w call bound sides zap out es xa (pointer p) y [] [] (n + 1) z.turns (first_after b call t line (form_by u (typed.Assign a d))) tt tt below above (λ le more hm.
-          goes-on b call t line u.lists (nodes u) [] (turned w out es (n + 1 + y.turns)) (has_read [] more) (pointer p) (typed.Assign a d) d refl
+          goes-on b call t line u.lists (nodes u) [] (state_with w out es (n + 1 + y.turns)) (has_read [] more) (pointer p) (typed.Assign a d) d refl
           ∙ operand_stops u w call bound sides zap out es xd (found_worth second) z [] more (n + 1 + y.turns) 0 (second_after b call t line (form_by u (typed.Assign a d)) (pointer p)) tt hm le (omega (arith, above))
           (λ more' rest hr. absurd (omega (arith, more', above)))));
     })
@@ -179,8 +179,8 @@ performs_assign u w new m a d p second v form y z hv st =
     assigns_turns : (x y z : TypedTree) (j k : ℕ) → form_of x ≡ Assign y z → turns_of y ≡ Some j → turns_of z ≡ Some k → whole_turns x ≡ Some (j + k + 1)
     assigns_turns (Node t line turn f) y z j k form e h =
         ap (λ (g : Form). whole_turns (Node t line turn g)) form
-        ∙ ap (λ o. counted true (both o (turns_of z))) e
-        ∙ ap (λ o. counted true (both (Some j) o)) h
+        ∙ ap (λ o. with_own_turn true (sum_of_turns o (turns_of z))) e
+        ∙ ap (λ o. with_own_turn true (sum_of_turns (Some j) o)) h
 
 -- a write of what was found, that was reached and is permitted
 module _ (u : Stored) (w : World) (t : Ty) (p : Pointer) (at : Reach) (fits : fits_lvalue u t ≡ true) where
@@ -190,17 +190,17 @@ module _ (u : Stored) (w : World) (t : Ty) (p : Pointer) (at : Reach) (fits : fi
   abbrev stored : Worth → List Byte
   stored v = stored_as l.number l.shape v
 
-  written_by : (v : Worth) → ((go : Worth → Done) → present v w go ≡ go v) → HasReached w.memory.table p l.size l.align true at → permits (setting_of u) w l at true ≡ true
+  written_by : (v : Worth) → ((go : Worth → Done) → on_present_value v w go ≡ go v) → HasReached w.memory.table p l.size l.align true at → permits (setting_of u) w l at true ≡ true
       → (is_stored l.shape l.size v && (knows_worth w.memory.table (pointer p) && knows_worth w.memory.table v)) ≡ true → WritesTo u w t p v (stored v)
   written_by v there reached permitted can = λ bound sides zap.
       let b = setting_by u bound sides zap in
-      ap (λ c. if c then writes b l (pointer p) v None [] w else Fails missing_value None w quiet)
+      ap (λ c. if c then writes b l (pointer p) v None [] w else Fails missing_value None w no_telling)
       (both_of (fits_lvalue u t) (is_stored l.shape l.size v && (knows_worth w.memory.table (pointer p) && knows_worth w.memory.table v)) fits can)
       ∙ there (writes_to b l p None [] w)
       ∙ ap (λ x. reaching_by w p (range_use w.memory.table p l.size) x (writes_at b l p v None [])) reached.is
       ∙ ap (λ x. writes_at b l p v None [] at w (telling (uses range_test x))) reached.used
-      ∙ ap (λ c. if c then writes_permitted l p v None [] at w quiet else Fails (undefined EffectiveTypes WrongType) (Some p.prov) w quiet) permitted
-      ∙ ap (λ a. Answers v (put_at w a (stored v)) quiet) reached.address
+      ∙ ap (λ c. if c then writes_permitted l p v None [] at w no_telling else Fails (undefined_behaviour EffectiveTypes WrongType) (Some p.prov) w no_telling) permitted
+      ∙ ap (λ a. Answers v (put_at w a (stored v)) no_telling) reached.address
 
   pub written : (v : Found) → HasReached w.memory.table p l.size l.align true at → permits (setting_of u) w l at true ≡ true
       → (is_stored l.shape l.size (found_worth v) && (knows_worth w.memory.table (pointer p) && knows_worth w.memory.table (found_worth v))) ≡ true → WritesTo u w t p (found_worth v) (stored (found_worth v))

@@ -15,8 +15,8 @@ use Rattle.pv_typed.specs.TypedTree.{TypedTree, Node, type_of, line_of, form_of}
 use Rattle.pv_typed.specs.Trees.{takes_turn}
 use Rattle.pv_typed.specs.Tables.{Stored, nodes}
 use Rattle.pv_typed.specs.NodeTrees.{expression_at}
-use Rattle.pv_typed.specs.Plain.{counted, both, turns_of}
-use Rattle.pv_seq.specs.Sequencing.{Open, noted}
+use Rattle.pv_typed.specs.Plain.{with_own_turn, sum_of_turns, turns_of}
+use Rattle.pv_seq.specs.Sequencing.{Open, with_access}
 use Rattle.pv_world.specs.declared.got.How.TheVariants.{Rounds}
 use Rattle.pv_world.specs.declared.got.Shape.TheVariants as shape
 use Rattle.pv_world.specs.Worlds.{Worth, World}
@@ -26,16 +26,16 @@ use Rattle.pv_eval.specs.declared.marked.Marked.{Marked}
 use Rattle.pv_eval.specs.States.{Setting, State, Res, Gives, then_do}
 use Rattle.pv_eval.specs.TypeForms.{lvalue, shape_of, kind_of, element_size}
 use Rattle.pv_types.specs.Sorts.{is_pointer}
-use Rattle.pv_num.specs.Kinds.{promoted}
+use Rattle.pv_num.specs.Kinds.{promotion_of}
 use Rattle.pv_eval.specs.Sizes.{setting_of}
 use Rattle.pv_eval.specs.Accesses.{access_to}
 use Rattle.pv_eval.specs.Operations.{Converts, Calculates, Moves, Reads, Writes, does, act}
-use Rattle.pv_eval.specs.Sequenced.{done, operand}
-use Rattle.pv_eval.specs.Steps.{Calling, takes, converted, reading, writing, is_minus, is_down, is_after, combining, stepping}
+use Rattle.pv_eval.specs.Sequenced.{node_value, operand}
+use Rattle.pv_eval.specs.Steps.{Calling, takes, with_conversion, reading, writing, is_minus, is_down, is_after, combining, stepping}
 use Rattle.pv_eval.specs.Evaluation.{ev, ev_form}
 use Rattle.pv_eval.specs.Frames.{first_after, both_after}
 use Rattle.pv_eval.specs.Ahead.{first_operand_of}
-use Rattle.pv_eval.specs.Plainly.{setting_by, turned, has_read, Yields, form_by, GivesValue, whole_turns, Performs, AlwaysGives, GivesAt, IsConverted, ReadsFrom, StoresAt, StepsTo, CombinesTo}
+use Rattle.pv_eval.specs.Plainly.{setting_by, state_with, has_read, Yields, form_by, GivesValue, whole_turns, Performs, AlwaysGives, GivesAt, IsConverted, ReadsFrom, StoresAt, StepsTo, CombinesTo}
 use Rattle.pv_eval.proofs.Cases.{begins}
 use Rattle.pv_eval.proofs.PlainSteps.{with_turn, reads_both, node_begun, node_stops, operand_stops}
 use Rattle.pv_eval.proofs.PlainNumbers.{act_gives}
@@ -43,7 +43,7 @@ use Rattle.pv_eval.proofs.PlainStores.{root_whole, act_puts, value_from, operand
 
 -- the operator, and the conversion back
 combining_gives : (w : World) (out : List ℕ) (es : List Marked) (n : ℕ) (b : Setting) (line : ℕ) (o : BinOp) (k back : IntKind) (v x y z : Worth) → AlwaysGives (λ b. Calculates o k v x) y → AlwaysGives (λ b. Converts (Rounds back) y) z
-    → combining b line o k back v x (turned w out es n) ≡ Gives z (turned w out es n)
+    → combining b line o k back v x (state_with w out es n) ≡ Gives z (state_with w out es n)
 combining_gives w out es n b line o k back v x y z h g =
     ap (λ r. then_do r (λ v s. act b line (Converts (Rounds back) v) s)) (act_gives w out es n b line (Calculates o k v x) y (h b w))
     ∙ act_gives w out es n b line (Converts (Rounds back) y) z (g b w)
@@ -51,7 +51,7 @@ combining_gives w out es n b line o k back v x y z h g =
 pub combines_to : (x : TypedTree) (o : BinOp) (k back : IntKind) (v w left right y z : Worth) → AlwaysGives (λ b. Converts (Rounds k) v) left → IsConverted x w right → AlwaysGives (λ b. Calculates o k left right) y
     → AlwaysGives (λ b. Converts (Rounds back) y) z → CombinesTo x o k back v w z
 combines_to x o k back v w left right y z hl hr hc hz = λ b world line out es n go.
-    ap (λ r. then_do r (λ v s. then_do (converted b x w s) (λ w s. then_do (combining b line o k back v w s) go))) (act_gives world out es n b line (Converts (Rounds k) v) left (hl b world))
+    ap (λ r. then_do r (λ v s. then_do (with_conversion b x w s) (λ w s. then_do (combining b line o k back v w s) go))) (act_gives world out es n b line (Converts (Rounds k) v) left (hl b world))
     ∙ ap (λ r. then_do r (λ w s. then_do (combining b line o k back left w s) go)) (hr b world out es n)
     ∙ ap (λ r. then_do r go) (combining_gives world out es n b line o k back left right y z hc hz)
 
@@ -71,21 +71,21 @@ module _ (u : Stored) (w : World) (t : Ty) (o : IncrementOperator) (v z : Worth)
   operator = if is_down o then op.Sub else op.Add
 
   abbrev by_form : Setting → ℕ → State → (pointer : Bool) → (kind : IntKind) → Res Worth
-  by_form b line s c j = if c then act b line (Moves (is_down o) true (element_size b t) v (int (pos 1))) s else combining b line operator (promoted j) j v (int (pos 1)) s
+  by_form b line s c j = if c then act b line (Moves (is_down o) true (element_size b t) v (int (pos 1))) s else combining b line operator (promotion_of j) j v (int (pos 1)) s
 
-  pub steps_number : (k : IntKind) (y : Worth) → shape_of t ≡ shape.Int k → AlwaysGives (λ b. Calculates operator (promoted k) v (int (pos 1))) y → AlwaysGives (λ b. Converts (Rounds k) y) z → StepsTo u w t o v z
+  pub steps_number : (k : IntKind) (y : Worth) → shape_of t ≡ shape.Int k → AlwaysGives (λ b. Calculates operator (promotion_of k) v (int (pos 1))) y → AlwaysGives (λ b. Converts (Rounds k) y) z → StepsTo u w t o v z
   steps_number k y form h g = λ bound sides zap line out es n.
       let b = setting_by u bound sides zap in
-      let s = turned w out es n in
+      let s = state_with w out es n in
       let parts = int_shape t k form in
       ap (λ c. by_form b line s c (kind_of t)) parts.0
       ∙ ap (by_form b line s false) parts.1
-      ∙ combining_gives w out es n b line operator (promoted k) k v (int (pos 1)) y z h g
+      ∙ combining_gives w out es n b line operator (promotion_of k) k v (int (pos 1)) y z h g
 
   pub steps_pointer : (size : ℕ) → is_pointer t ≡ true → size ≡ element_size (setting_of u) t → GivesAt w (λ b. Moves (is_down o) true size v (int (pos 1))) z → StepsTo u w t o v z
   steps_pointer size pointing e h = λ bound sides zap line out es n.
       let b = setting_by u bound sides zap in
-      let s = turned w out es n in
+      let s = state_with w out es n in
       ap (λ c. by_form b line s c (kind_of t)) pointing
       ∙ act_gives w out es n b line (Moves (is_down o) true (element_size b t) v (int (pos 1))) z (ap (λ (k : ℕ). does b (Moves (is_down o) true k v (int (pos 1))) w) (sym e) ∙ h b)
 
@@ -99,7 +99,7 @@ performs_increment u w new m a o p v z form y hr hs st =
     let result = if is_after o then v else z in
     subst (λ (q : World). Performs u w q x result) (sym st.is) (record {
       turns = y.turns + 1;
-      are = root_whole x (form_by u row) (counted true (turns_of xa)) form (λ t line turn. refl) ∙ ap (counted true) y.are;
+      are = root_whole x (form_by u row) (with_own_turn true (turns_of xa)) form (λ t line turn. refl) ∙ ap (with_own_turn true) y.are;
       gives = λ call bound sides zap out es n room.
           let b = setting_by u bound sides zap in
           let t = type_of x in
@@ -107,10 +107,10 @@ performs_increment u w new m a o p v z form y hr hs st =
           let l = lvalue b (type_of xa) in
           let after = put_at w p.address st.bytes in
           let last : n + 1 + y.turns ≡ n + (y.turns + 1) = omega arith in
-          subst (λ k. GivesValue (ev b call x [] (turned w out es n)) result (turned after out es k)) last
+          subst (λ k. GivesValue (ev b call x [] (state_with w out es n)) result (state_with after out es k)) last
           (value_from _ _ result _
           (node_begun u w call bound sides zap out es x (form_by u row) [] n y.turns form (omega (arith, room))
-          ∙ begins b call t line u.lists (nodes u) [] (turned w out es (n + 1)) row a refl)
+          ∙ begins b call t line u.lists (nodes u) [] (state_with w out es (n + 1)) row a refl)
           (operand_value u w call bound sides zap out es xa (pointer p) result y [] (n + 1) (first_after b call t line (form_by u row)) _ tt (omega (arith, room))
           (λ more hm.
           let j = has_read [] more in
@@ -120,16 +120,16 @@ performs_increment u w new m a o p v z form y hr hs st =
             given = record { value = result; all = (more ++ access_to l p false ∷ []) ++ access_to l p true ∷ []; loose = access_to l p true ∷ [] };
             value = refl;
             is =
-                ap (λ r. then_do r (λ q s. then_do (stepping b line t o q s) (λ r s. writing b l line (pointer p) r None i s (λ j r s. done j (if is_after o then q else r) s)))) (act_gives w out es k b line (Reads l (pointer p) []) v (hr bound sides zap [] tt))
-                ∙ ap (λ r. then_do r (λ r s. writing b l line (pointer p) r None i s (λ j r s. done j (if is_after o then v else r) s))) (hs bound sides zap line out es k)
-                ∙ ap (λ r. then_do r (λ r s. done (noted (access_to l p true) i) (if is_after o then v else r) s)) (act_puts w p.address st.bytes out es k b line (Writes l (pointer p) z None []) z (st.writes bound sides zap));
+                ap (λ r. then_do r (λ q s. then_do (stepping b line t o q s) (λ r s. writing b l line (pointer p) r None i s (λ j r s. node_value j (if is_after o then q else r) s)))) (act_gives w out es k b line (Reads l (pointer p) []) v (hr bound sides zap [] tt))
+                ∙ ap (λ r. then_do r (λ r s. writing b l line (pointer p) r None i s (λ j r s. node_value j (if is_after o then v else r) s))) (hs bound sides zap line out es k)
+                ∙ ap (λ r. then_do r (λ r s. node_value (with_access (access_to l p true) i) (if is_after o then v else r) s)) (act_puts w p.address st.bytes out es k b line (Writes l (pointer p) z None []) z (st.writes bound sides zap));
           })));
       stops = λ call bound sides zap out es n low high.
           let b = setting_by u bound sides zap in
           let t = type_of x in
           let line = line_of x in
           node_stops u w call bound sides zap out es x (form_by u row) [] n y.turns form low (omega (arith, high)) (λ below above.
-          begins b call t line u.lists (nodes u) [] (turned w out es (n + 1)) row a refl
+          begins b call t line u.lists (nodes u) [] (state_with w out es (n + 1)) row a refl
           ∙ operand_stops u w call bound sides zap out es xa (pointer p) y [] [] (n + 1) 0 (first_after b call t line (form_by u row)) tt tt below (omega (arith, above)) (λ le more hm. absurd (omega (arith, le, above))));
     })
 
@@ -137,7 +137,7 @@ performs_increment u w new m a o p v z form y hr hs st =
 pub record IsUpdate (u : Stored) (row : Typed) (a d : NodeId) : Type 0 where
   pub first : first_operand_of row ≡ Some a
   pub takes : (turn : Bool) → takes turn (form_by u row) ≡ true
-  pub turns : (t : Ty) (line : ℕ) (turn : Bool) → whole_turns (Node t line turn (form_by u row)) ≡ counted true (both (turns_of (expression_at u a)) (turns_of (expression_at u d)))
+  pub turns : (t : Ty) (line : ℕ) (turn : Bool) → whole_turns (Node t line turn (form_by u row)) ≡ with_own_turn true (sum_of_turns (turns_of (expression_at u a)) (turns_of (expression_at u d)))
   pub goes : (b : Setting) (call : Calling) (t : Ty) (line : ℕ) (j : Open) (p : Worth) (s : State)
       → first_after b call t line (form_by u row) j p s ≡ reading b (lvalue b (type_of (expression_at u a))) line p j s (λ j v s. operand (ev b call (expression_at u d)) j s (both_after b call t line (form_by u row) p v))
 
@@ -145,7 +145,7 @@ pub record IsUpdate (u : Stored) (row : Typed) (a d : NodeId) : Type 0 where
 abbrev Stores : Stored → World → Ty → Typed → (a : NodeId) → (place read second z : Worth) → Type 0
 Stores u w t row a p v second z =
     (call : Calling) (bound : ℕ) (sides : Option (List Bool)) (zap : Bool) (line : ℕ) (j : Open) (out : List ℕ) (es : List Marked) (n : ℕ)
-    → both_after (setting_by u bound sides zap) call t line (form_by u row) p v j second (turned w out es n) ≡ writing (setting_by u bound sides zap) (lvalue (setting_by u bound sides zap) (type_of (expression_at u a))) line p z None j (turned w out es n) done
+    → both_after (setting_by u bound sides zap) call t line (form_by u row) p v j second (state_with w out es n) ≡ writing (setting_by u bound sides zap) (lvalue (setting_by u bound sides zap) (type_of (expression_at u a))) line p z None j (state_with w out es n) node_value
 
 performs_update : (u : Stored) (w new : World) (m a d : NodeId) (row : Typed) (p : Pointer) (v second z : Worth) → form_of (expression_at u m) ≡ form_by u row → IsUpdate u row a d → Yields u w (expression_at u a) (pointer p)
     → ReadsFrom u w (type_of (expression_at u a)) p v → Yields u w (expression_at u d) second → Stores u w (type_of (expression_at u m)) row a (pointer p) v second z → StoresAt u w (type_of (expression_at u a)) p z new → Performs u w new (expression_at u m) z
@@ -157,7 +157,7 @@ performs_update u w new m a d row p v second z form is y hr yd hb st =
     let counts : (k : ℕ) → with_turn (takes (takes_turn x) f) k ≡ k + 1 = λ k. ap (λ c. with_turn c k) (is.takes (takes_turn x)) in
     subst (λ (q : World). Performs u w q x z) (sym st.is) (record {
       turns = y.turns + yd.turns + 1;
-      are = root_whole x f (counted true (both (turns_of xa) (turns_of xd))) form is.turns ∙ ap (λ o. counted true (both o (turns_of xd))) y.are ∙ ap (λ o. counted true (both (Some y.turns) o)) yd.are;
+      are = root_whole x f (with_own_turn true (sum_of_turns (turns_of xa) (turns_of xd))) form is.turns ∙ ap (λ o. with_own_turn true (sum_of_turns o (turns_of xd))) y.are ∙ ap (λ o. with_own_turn true (sum_of_turns (Some y.turns) o)) yd.are;
       gives = λ call bound sides zap out es n room.
           let b = setting_by u bound sides zap in
           let t = type_of x in
@@ -165,16 +165,16 @@ performs_update u w new m a d row p v second z form is y hr yd hb st =
           let l = lvalue b (type_of xa) in
           let after = put_at w p.address st.bytes in
           let last : n + 1 + y.turns + yd.turns ≡ n + (y.turns + yd.turns + 1) = omega arith in
-          subst (λ k. GivesValue (ev b call x [] (turned w out es n)) z (turned after out es k)) last
+          subst (λ k. GivesValue (ev b call x [] (state_with w out es n)) z (state_with after out es k)) last
           (value_from _ _ z _
           (node_begun u w call bound sides zap out es x f [] n (y.turns + yd.turns) form (omega (arith, counts (y.turns + yd.turns), room))
-          ∙ ap (λ k. ev_form b call t line f [] (turned w out es k)) (counts n)
-          ∙ begins b call t line u.lists (nodes u) [] (turned w out es (n + 1)) row a is.first)
+          ∙ ap (λ k. ev_form b call t line f [] (state_with w out es k)) (counts n)
+          ∙ begins b call t line u.lists (nodes u) [] (state_with w out es (n + 1)) row a is.first)
           (operand_value u w call bound sides zap out es xa (pointer p) z y [] (n + 1) (first_after b call t line f) _ tt (omega (arith, room))
           (λ more hm.
           let near = more ++ access_to l p false ∷ [] in
           value_from _ _ z _
-          (is.goes b call t line (has_read [] more) (pointer p) (turned w out es (n + 1 + y.turns))
+          (is.goes b call t line (has_read [] more) (pointer p) (state_with w out es (n + 1 + y.turns))
           ∙ ap (λ r. then_do r (λ v s. operand (ev b call xd) (has_read [] near) s (both_after b call t line f (pointer p) v))) (act_gives w out es (n + 1 + y.turns) b line (Reads l (pointer p) []) v (hr bound sides zap [] tt)))
           (operand_value u w call bound sides zap out es xd second z yd near (n + 1 + y.turns) (both_after b call t line f (pointer p) v) _ (reads_both more (access_to l p false ∷ []) hm (refl, tt)) (omega (arith, room))
           (λ rest hs.
@@ -184,7 +184,7 @@ performs_update u w new m a d row p v second z form is y hr yd hb st =
             value = refl;
             is =
                 hb call bound sides zap line j out es (n + 1 + y.turns + yd.turns)
-                ∙ ap (λ r. then_do r (λ v s. done (noted (access_to l p true) j) v s)) (act_puts w p.address st.bytes out es (n + 1 + y.turns + yd.turns) b line (Writes l (pointer p) z None []) z (st.writes bound sides zap));
+                ∙ ap (λ r. then_do r (λ v s. node_value (with_access (access_to l p true) j) v s)) (act_puts w p.address st.bytes out es (n + 1 + y.turns + yd.turns) b line (Writes l (pointer p) z None []) z (st.writes bound sides zap));
           })))));
       stops = λ call bound sides zap out es n low high.
           let b = setting_by u bound sides zap in
@@ -192,11 +192,11 @@ performs_update u w new m a d row p v second z form is y hr yd hb st =
           let line = line_of x in
           let l = lvalue b (type_of xa) in
           node_stops u w call bound sides zap out es x f [] n (y.turns + yd.turns) form low (omega (arith, counts (y.turns + yd.turns), high)) (λ below above.
-          ap (λ k. ev_form b call t line f [] (turned w out es k)) (counts n)
-          ∙ begins b call t line u.lists (nodes u) [] (turned w out es (n + 1)) row a is.first
+          ap (λ k. ev_form b call t line f [] (state_with w out es k)) (counts n)
+          ∙ begins b call t line u.lists (nodes u) [] (state_with w out es (n + 1)) row a is.first
           ∙ operand_stops u w call bound sides zap out es xa (pointer p) y [] [] (n + 1) yd.turns (first_after b call t line f) tt tt (omega (arith, counts n, below)) (omega (arith, counts n, above)) (λ le more hm.
           let near = more ++ access_to l p false ∷ [] in
-          is.goes b call t line (has_read [] more) (pointer p) (turned w out es (n + 1 + y.turns))
+          is.goes b call t line (has_read [] more) (pointer p) (state_with w out es (n + 1 + y.turns))
           ∙ ap (λ r. then_do r (λ v s. operand (ev b call xd) (has_read [] near) s (both_after b call t line f (pointer p) v))) (act_gives w out es (n + 1 + y.turns) b line (Reads l (pointer p) []) v (hr bound sides zap [] tt))
           ∙ operand_stops u w call bound sides zap out es xd second yd [] near (n + 1 + y.turns) 0 (both_after b call t line f (pointer p) v) tt (reads_both more (access_to l p false ∷ []) hm (refl, tt)) le (omega (arith, counts n, above))
           (λ within rest hs. absurd (omega (arith, counts n, within, above)))));
@@ -211,7 +211,7 @@ performs_compound u w new m a d o k p v second z form y hr yd hc st =
     (record { first = refl; takes = λ turn. refl; turns = λ t line turn. refl; goes = λ b call t line j p s. refl }) y hr yd
     (λ call bound sides zap line j out es n.
     let b = setting_by u bound sides zap in
-    hc b w line out es n (λ v s. writing b (lvalue b (type_of (expression_at u a))) line (pointer p) v None j s done)) st
+    hc b w line out es n (λ v s. writing b (lvalue b (type_of (expression_at u a))) line (pointer p) v None j s node_value)) st
 
 -- a pointer that is moved
 pub performs_pointer : (u : Stored) (w new : World) (m a d : NodeId) (sign : Sign) (minus : Bool) (size : ℕ) (p : Pointer) (v second z : Worth) → form_of (expression_at u m) ≡ form_by u (typed.PointerAssign sign a d)
@@ -224,6 +224,6 @@ performs_pointer u w new m a d sign minus size p v second z form em sized y hr y
     (record { first = refl; takes = λ turn. refl; turns = λ t line turn. refl; goes = λ b call t line j p s. refl }) y hr yd
     (λ call bound sides zap line j out es n.
     let b = setting_by u bound sides zap in
-    ap (λ r. then_do r (λ v s. writing b (lvalue b (type_of (expression_at u a))) line (pointer p) v None j s done))
+    ap (λ r. then_do r (λ v s. writing b (lvalue b (type_of (expression_at u a))) line (pointer p) v None j s node_value))
     (act_gives w out es n b line (Moves (is_minus sign) true (element_size b t) v second) z
     (ap (λ c. does b (Moves c true (element_size b t) v second) w) (sym em) ∙ ap (λ (k : ℕ). does b (Moves minus true k v second) w) (sym sized) ∙ h b))) st

@@ -19,8 +19,8 @@ use Rattle.pv_eval.specs.Operations.{Finds, act}
 use Rattle.pv_eval.specs.CalleeParts.{function_in}
 use Rattle.pv_eval.specs.Moments.{Called, by_number}
 use Rattle.pv_eval.specs.TypeForms.{pointed_to}
-use Rattle.pv_eval.specs.Sequenced.{Given, done, operand}
-use Rattle.pv_eval.specs.Steps.{Calling, handed}
+use Rattle.pv_eval.specs.Sequenced.{Given, node_value, operand}
+use Rattle.pv_eval.specs.Steps.{Calling, accepted_value}
 use Rattle.pv_eval.specs.Evaluation.{ev, ev_through}
 use Rattle.pv_eval.specs.declared.failure.Failure.{Failure}
 use Rattle.pv_eval.specs.declared.failure.Failure.TheVariants as failure
@@ -54,7 +54,7 @@ module _ (b : Setting) (call : Calling) (u : Stored) (n a : NodeId) (l : ListId)
 
   -- what a call does with the value of an argument, behind these
   abbrev on : List Worth → TypedTree → (next : ℕ) → Open → Worth → State → Res Given
-  on ws x q j v s = then_do (handed b x v s) (λ v s. ev_through b call line called (callee_of ws) (passed_of ws ++ v ∷ []) (arguments_from xs q) j s)
+  on ws x q j v s = then_do (accepted_value b x v s) (λ v s. ev_through b call line called (callee_of ws) (passed_of ws ++ v ∷ []) (arguments_from xs q) j s)
 
   module _ (got : Vec Got Global) (i : ℕ) (many : length got.items ≡ suc i) where
     abbrev ws : List Worth
@@ -128,7 +128,7 @@ passed-removed (g ∷ gs) rest h e = ap (map worth_of) (sym e)
 -- which function is called, once all arguments are there
 module _ (b : Setting) (call : Calling) (u : Stored) (line line' : ℕ) (t t' : Ty) (p p' : Worth) (args args' : List Worth) (j : Open) (s : State) (el : line' ≡ line) (et : t' ≡ t) (ep : p ≡ p') (ea : args ≡ args') where
   asks : List Worth → ℕ → Worth → State → Res Given
-  asks vs k f s = then_do (call (function_in f) vs k s) (done (sequence_point j))
+  asks vs k f s = then_do (call (function_in f) vs k s) (node_value (sequence_point j))
 
   asked-function : ev_through b call line t p args NoArguments j s ≡ then_do (act b line' (Finds t' p') s) (asks args' line')
   unfolding ev asks
@@ -138,7 +138,7 @@ module _ (b : Setting) (call : Calling) (u : Stored) (line line' : ℕ) (t t' : 
       ∙ ap (λ x. then_do (act b line' (Finds t' x) s) (asks args line')) ep
       ∙ ap (λ vs. then_do (act b line' (Finds t' p') s) (asks vs line')) ea
 
-  pub pointed-asked : (f : ℕ) (s' : State) → act b line' (Finds t' p') s ≡ Gives (by_number f) s' → ev_through b call line t p args NoArguments j s ≡ then_do (call f args' line' s') (done (sequence_point j))
+  pub pointed-asked : (f : ℕ) (s' : State) → act b line' (Finds t' p') s ≡ Gives (by_number f) s' → ev_through b call line t p args NoArguments j s ≡ then_do (call f args' line' s') (node_value (sequence_point j))
   unfolding asks
   pointed-asked f s' h = asked-function ∙ ap (λ (r : Res Worth). then_do r (asks args' line')) h
 

@@ -9,34 +9,34 @@ use Rattle.pv_world.specs.declared.got.Failure.{Failure as WorldFailure}
 use Rattle.pv_world.specs.declared.got.Failure.TheVariants as world_failure
 use Rattle.pv_world.specs.Worlds.{Worth, Nothing, World, Halts, SidesEnded}
 use Rattle.pv_world.specs.ObjectParts.{without_first}
-use Rattle.pv_world.specs.Telling.{Told, quiet, telling, fault_told, fault_of, verdict_of}
+use Rattle.pv_world.specs.Telling.{Told, no_telling, telling, fault_told, fault_of, verdict_of}
 use Rattle.pv_world.specs.Doing.{Done, Answers, Fails, Breaks}
 use Rattle.pv_eval.specs.declared.failure.Failure.{Failure}
 use Rattle.pv_eval.specs.declared.marked.Marked.{Marked}
 use Rattle.pv_eval.specs.States.{Setting, State, Stopped, Res, Gives, Stops}
-use Rattle.pv_eval.specs.Acting.{stamped, noted, sided, settling, by_side, answered, acted, pair_count}
+use Rattle.pv_eval.specs.Acting.{marked_events, after_telling, with_side, settling, by_side, answer_with_sides, after_doing, pair_count}
 use Rattle.pv_eval.specs.Moments.{Moment, Follows, Stays, IsSetting, state_of, Came}
-use Rattle.pv_eval.specs.Texts.{text_in, silent, written, with_text, UnlessNoMemory, Wrote}
+use Rattle.pv_eval.specs.Texts.{text_in, silent, behind_text, with_text, UnlessNoMemory, Wrote}
 use Rattle.pv_eval.specs.Operations.{Op, EndsBody, does, act}
 
 -- the text of what is told is written behind
-noted_text : (w : World) (t : Told) (s : State) → noted w t s ≡ written t.bytes (noted w (telling t.events) s)
-noted_text w t s = ap (λ o. record { world = w; output = o ++ t.bytes; events = s.events ++ stamped s.taken (length s.output) t.events; taken = s.taken }) (sym (append-nil s.output))
+noted_text : (w : World) (t : Told) (s : State) → after_telling w t s ≡ behind_text t.bytes (after_telling w (telling t.events) s)
+noted_text w t s = ap (λ o. record { world = w; output = o ++ t.bytes; events = s.events ++ marked_events s.taken (length s.output) t.events; taken = s.taken }) (sym (append-nil s.output))
 
 sided_text : (o : Option Bool) (v : Worth) (line : ℕ) (w : World) (t : Told) (s : State) → by_side o v line w t s ≡ with_text t.bytes (by_side o v line w (telling t.events) s)
 sided_text None v line w t s = ap (Stops (Stopped (Halts (SidesEnded (pair_count w))) line)) (noted_text w (settling (pair_count w) t) s)
-sided_text (Some high) v line w t s = ap (Gives v) (noted_text (sided w (pair_count w) high) (settling (pair_count w) t) s)
+sided_text (Some high) v line w t s = ap (Gives v) (noted_text (with_side w (pair_count w) high) (settling (pair_count w) t) s)
 
 choice_text : (c : Bool) (o : Option Bool) (v : Worth) (line : ℕ) (w : World) (t : Told) (s : State)
-    → (if c then by_side o v line w t s else Gives v (noted w t s)) ≡ with_text t.bytes (if c then by_side o v line w (telling t.events) s else Gives v (noted w (telling t.events) s))
+    → (if c then by_side o v line w t s else Gives v (after_telling w t s)) ≡ with_text t.bytes (if c then by_side o v line w (telling t.events) s else Gives v (after_telling w (telling t.events) s))
 choice_text true o v line w t s = sided_text o v line w t s
 choice_text false o v line w t s = ap (Gives v) (noted_text w t s)
 
-answered_text : (sides : Option (List Bool)) (v : Worth) (line : ℕ) (w : World) (t : Told) (s : State) → answered sides v line w t s ≡ with_text t.bytes (answered sides v line w (telling t.events) s)
+answered_text : (sides : Option (List Bool)) (v : Worth) (line : ℕ) (w : World) (t : Told) (s : State) → answer_with_sides sides v line w t s ≡ with_text t.bytes (answer_with_sides sides v line w (telling t.events) s)
 answered_text None v line w t s = ap (Gives v) (noted_text w t s)
 answered_text (Some sides) v line w t s = choice_text (nat_lt (pair_count s.world) (pair_count w)) (slice_get sides (pair_count s.world)) v line w t s
 
-pub acted_text : (b : Setting) (line : ℕ) (d : Done) (s : State) → acted b line d s ≡ with_text (text_in d) (acted b line (silent d) s)
+pub acted_text : (b : Setting) (line : ℕ) (d : Done) (s : State) → after_doing b line d s ≡ with_text (text_in d) (after_doing b line (silent d) s)
 acted_text b line (Answers v w t) s = answered_text b.sides v line w t s
 acted_text b line (Fails y p w t) s = ap (Stops (Stopped y line)) (noted_text w (record t { events = t.events ++ fault_told s.world.memory y p }) s)
 acted_text b line (Breaks y p w t) s = ap (Stops (Stopped y line)) (noted_text w (record t { events = t.events ++ fault_of p (verdict_of y) }) s)
@@ -59,9 +59,9 @@ said (Err (world_failure.Stop z)) P h n = h
 said (Err world_failure.NoMemory) P h n = absurd (n refl)
 
 -- the closing of an operation that prints
-pub closed_text : (b : Setting) (line : ℕ) (d : Done) (s t : State) (result : Result Got Failure) (text : List ℕ) → text ≡ text_in d → Came (with_text text (acted b line (silent d) s)) result t → Came (acted b line d s) result t
+pub closed_text : (b : Setting) (line : ℕ) (d : Done) (s t : State) (result : Result Got Failure) (text : List ℕ) → text ≡ text_in d → Came (with_text text (after_doing b line (silent d) s)) result t → Came (after_doing b line d s) result t
 closed_text b line d s t result text is h =
-    subst (λ r. Came r result t) (sym (acted_text b line d s)) (subst (λ xs. Came (with_text xs (acted b line (silent d) s)) result t) is h)
+    subst (λ r. Came r result t) (sym (acted_text b line d s)) (subst (λ xs. Came (with_text xs (after_doing b line (silent d) s)) result t) is h)
 
 -- what was written, by the same lists
 pub wrote_by : (op : World → Done) (r : Result Got WorldFailure) (w v : World) (before told slice : List What) (had text given : List ℕ) → before ≡ [] → slice ≡ told → had ≡ [] → given ≡ text
@@ -76,7 +76,7 @@ module _ (b : Setting) (u : Stored) (o p : Op) (line : ℕ) (r : Result Got Worl
   -- what closes whatever was made, of this moment
   abbrev Closes : Moment → Type 0
   Closes m =
-      (op : World → Done) → b.sides ≡ m.sides → Follows m (length out) → Wrote op r m.world w [] told [] text → C (acted b line (op m.world) (state_of m out es))
+      (op : World → Done) → b.sides ≡ m.sides → Follows m (length out) → Wrote op r m.world w [] told [] text → C (after_doing b line (op m.world) (state_of m out es))
 
   pub closing_text : inner ≡ old → IsSetting b u old → Follows old (length out) → p ≡ o → Wrote (does b p) r inner.world w [] told [] text → Closes inner → C (act b line o (state_of old out es))
   closing_text is hs hf same did k =
@@ -85,13 +85,13 @@ module _ (b : Setting) (u : Stored) (o p : Op) (line : ℕ) (r : Result Got Worl
       subst (λ x. C (act b line x (state_of old out es))) same (k1 (does b p) hs.sides hf did1)
 
 -- what tells nothing, prints nothing and makes no pair
-still : (sides : Option (List Bool)) (v : Worth) (line : ℕ) (w : World) (s : State) → pair_count w ≡ pair_count s.world → answered sides v line w quiet s ≡ Gives v (noted w quiet s)
+still : (sides : Option (List Bool)) (v : Worth) (line : ℕ) (w : World) (s : State) → pair_count w ≡ pair_count s.world → answer_with_sides sides v line w no_telling s ≡ Gives v (after_telling w no_telling s)
 still None v line w s e = refl
 still (Some sides) v line w s e =
     let none : nat_lt (pair_count s.world) (pair_count w) ≡ false = le-ltb (pair_count s.world) (pair_count w) (omega (arith, e)) in
-    ap (λ c. if c then by_side (slice_get sides (pair_count s.world)) v line w quiet s else Gives v (noted w quiet s)) none
+    ap (λ c. if c then by_side (slice_get sides (pair_count s.world)) v line w no_telling s else Gives v (after_telling w no_telling s)) none
 
-pub given_still : (b : Setting) (line : ℕ) (m : Moment) (v : Worth) (w : World) (out : List ℕ) (es : List Marked) → pair_count w ≡ pair_count m.world → acted b line (Answers v w quiet) (state_of m out es) ≡ Gives v (state_of (record m { world = w }) out es)
+pub given_still : (b : Setting) (line : ℕ) (m : Moment) (v : Worth) (w : World) (out : List ℕ) (es : List Marked) → pair_count w ≡ pair_count m.world → after_doing b line (Answers v w no_telling) (state_of m out es) ≡ Gives v (state_of (record m { world = w }) out es)
 given_still b line m v w out es e =
     still b.sides v line w (state_of m out es) e
     ∙ ap (λ o. Gives v (record { world = w; output = o; events = (es ++ m.waiting) ++ []; taken = m.taken })) (append-nil (out ++ m.printed))

@@ -19,7 +19,7 @@ use Rattle.pv_libc.specs.declared.values.Reply.{Reply}
 use Rattle.pv_libc.specs.declared.values.Reply.TheVariants as reply
 use Rattle.pv_libc.specs.Steps.{Now, with_notes, Did as Step}
 use Rattle.pv_libc.specs.Answers.{OrNoMemory, behind}
-use Rattle.pv_libc.specs.Calls.{called, output}
+use Rattle.pv_libc.specs.Calls.{reply_to_call, output}
 use Rattle.pv_libc.specs.Makings.{AreLive}
 use Rattle.pv_watch.specs.declared.event.What.{What}
 use Rattle.pv_world.specs.declared.got.Got.{Got}
@@ -27,12 +27,12 @@ use Rattle.pv_world.specs.declared.got.Failure.{Failure}
 use Rattle.pv_world.specs.declared.got.Failure.TheVariants as failure
 use Rattle.pv_world.specs.Worlds.{World, Nothing, Scalar, Halts, Exits, Aborts, Refused}
 use Rattle.pv_world.specs.Worths.{wrong_of, missing_value}
-use Rattle.pv_world.specs.Telling.{quiet, fault_of, verdict_of}
+use Rattle.pv_world.specs.Telling.{no_telling, fault_of, verdict_of}
 use Rattle.pv_world.specs.Doing.{Done, Fails}
-use Rattle.pv_world.specs.Coming.{Came, Did, Faulted, Gave, Ended, seen, worth_of}
+use Rattle.pv_world.specs.Coming.{Came, Did, Faulted, Gave, Ended, coming_of, worth_of}
 use Rattle.pv_eval.specs.States.{Setting}
 use Rattle.pv_eval.specs.Frames.{asked_with}
-use Rattle.pv_eval.specs.Library.{noted_as, blame_in, with_memory, asked, asks}
+use Rattle.pv_eval.specs.Library.{noted_as, blame_in, with_memory, done_by_call, asks}
 use Rattle.pv_eval.specs.LibraryParts.{all_noted, knows_arguments}
 use Rattle.pv_eval.specs.Moments.{come_to}
 use Rattle.pv_eval.specs.Operations.{Asks, does}
@@ -86,7 +86,7 @@ unless (Err failure.NoMemory) P h = tt
 
 -- what it comes to in the world that it leaves, after what happened within it
 told_as : (w : World) (M : Mem) (notes : List Note) (told : List What) (text : List ℕ) (r : Result Reply Stop)
-    → seen told w (silent (asked w text r (with_notes M notes))) ≡ seen (told ++ all_noted M.table notes) (with_memory w M) (come_to (blame_in notes) r (with_memory w M))
+    → coming_of told w (silent (done_by_call w text r (with_notes M notes))) ≡ coming_of (told ++ all_noted M.table notes) (with_memory w M) (come_to (blame_in notes) r (with_memory w M))
 told_as w M notes told text (Ok reply.Nothing) = ap (Gave Nothing (with_memory w M)) (sym (append-nil (told ++ all_noted M.table notes)))
 told_as w M notes told text (Ok (reply.Value v)) = ap (Gave (Scalar v) (with_memory w M)) (sym (append-nil (told ++ all_noted M.table notes)))
 told_as w M notes told text (Ok (reply.Exit n)) = ap (λ es. Ended (Halts (Exits n)) (with_memory w M) (es ++ [])) (sym (append-nil (told ++ all_noted M.table notes)))
@@ -95,7 +95,7 @@ told_as w M notes told text (Ok (reply.Placement e)) = ap (λ es. Ended (Halts (
 told_as w M notes told text (Err y) =
     ap (λ es. Ended (wrong_of y) (with_memory w M) (es ++ fault_of (blame_in notes) (verdict_of (wrong_of y)))) (sym (append-nil (told ++ all_noted M.table notes)))
 
-wrote_as : (w : World) (M : Mem) (notes : List Note) (text before after : List ℕ) (r : Result Reply Stop) → OnOk r (after ≡ before ++ text) → OnErr r (after ≡ before) → after ≡ before ++ text_in (asked w text r (with_notes M notes))
+wrote_as : (w : World) (M : Mem) (notes : List Note) (text before after : List ℕ) (r : Result Reply Stop) → OnOk r (after ≡ before ++ text) → OnErr r (after ≡ before) → after ≡ before ++ text_in (done_by_call w text r (with_notes M notes))
 wrote_as w M notes text before after (Ok reply.Nothing) ok err = ok
 wrote_as w M notes text before after (Ok (reply.Value v)) ok err = ok
 wrote_as w M notes text before after (Ok (reply.Exit n)) ok err = ok
@@ -103,21 +103,21 @@ wrote_as w M notes text before after (Ok reply.Abort) ok err = ok
 wrote_as w M notes text before after (Ok (reply.Placement e)) ok err = ok
 wrote_as w M notes text before after (Err y) ok err = err ∙ sym (append-nil before)
 
-module _ (f : Library) (args : List Arg) (w v : World) (notes : List Note) (r : Result Reply Stop) (n : r ≡ Err stop.NoMemory → ⊥) (answer : OrNoMemory r (with_notes v.memory notes) (behind [] (called f args w.memory))) where
+module _ (f : Library) (args : List Arg) (w v : World) (notes : List Note) (r : Result Reply Stop) (n : r ≡ Err stop.NoMemory → ⊥) (answer : OrNoMemory r (with_notes v.memory notes) (behind [] (reply_to_call f args w.memory))) where
   -- what the call is
-  asks_is : asks f args w ≡ asked w (output f args w.memory) r (with_notes v.memory notes)
+  asks_is : asks f args w ≡ done_by_call w (output f args w.memory) r (with_notes v.memory notes)
   asks_is =
-      let know = or_known r (with_notes v.memory notes) (behind [] (called f args w.memory)) n answer in
-      ap (λ a. asked w (output f args w.memory) a (called f args w.memory).after) (sym know.0) ∙ ap (λ S. asked w (output f args w.memory) r S) (sym know.1)
+      let know = or_known r (with_notes v.memory notes) (behind [] (reply_to_call f args w.memory)) n answer in
+      ap (λ a. done_by_call w (output f args w.memory) a (reply_to_call f args w.memory).after) (sym know.0) ∙ ap (λ S. done_by_call w (output f args w.memory) r S) (sym know.1)
 
   asks_did : (res : Result Got Failure) (told more es : List What) → v ≡ record w { memory = v.memory } → more ≡ told ++ all_noted v.memory.table notes
       → Did worth_of (come_to (blame_in notes) r) res v v more es → Did worth_of (λ w. silent (asks f args w)) res w v told es
   asks_did res told more es same is did =
       let text : List ℕ = output f args w.memory in
-      let did1 = subst (λ xs. Came worth_of res v es (seen xs v (come_to (blame_in notes) r v))) is did in
-      let did2 = subst (λ (x : World). Came worth_of res v es (seen (told ++ all_noted v.memory.table notes) x (come_to (blame_in notes) r x))) same did1 in
+      let did1 = subst (λ xs. Came worth_of res v es (coming_of xs v (come_to (blame_in notes) r v))) is did in
+      let did2 = subst (λ (x : World). Came worth_of res v es (coming_of (told ++ all_noted v.memory.table notes) x (come_to (blame_in notes) r x))) same did1 in
       let did3 = subst (λ s. Came worth_of res v es s) (sym (told_as w v.memory notes told text r)) did2 in
-      subst (λ d. Came worth_of res v es (seen told w (silent d))) (sym asks_is) did3
+      subst (λ d. Came worth_of res v es (coming_of told w (silent d))) (sym asks_is) did3
 
   asks_text : (had text : List ℕ) → OnOk r (text ≡ had ++ output f args w.memory) → OnErr r (text ≡ had) → text ≡ had ++ text_in (asks f args w)
   asks_text had text ok err = subst (λ d. text ≡ had ++ text_in d) (sym asks_is) (wrote_as w v.memory notes (output f args w.memory) had text r ok err)
@@ -132,18 +132,18 @@ module _ (f : Library) (args : List Arg) (w v : World) (notes : List Note) (r : 
 -- arguments whose names were made, and others
 module _ (b : Setting) (f : Library) (args : List Arg) (w : World) where
   abbrev chosen : Bool → Done
-  chosen t = if t then asks f args w else Fails missing_value None w quiet
+  chosen t = if t then asks f args w else Fails missing_value None w no_telling
 
   pub known_wrote : (res : Result Got Failure) (v : World) (es fs : List What) (had text : List ℕ) → knows_arguments w.memory.table args ≡ true
       → Wrote (asks f args) res w v es fs had text → Wrote (does b (Asks f args)) res w v es fs had text
   known_wrote res v es fs had text e h = record {
-    did = subst (λ t. Came worth_of res v fs (seen es w (silent (chosen t)))) (sym e) h.did;
+    did = subst (λ t. Came worth_of res v fs (coming_of es w (silent (chosen t)))) (sym e) h.did;
     wrote = subst (λ t. UnlessNoMemory res (text ≡ had ++ text_in (chosen t))) (sym e) h.wrote;
   }
 
   pub unknown_wrote : (x : Failure) (es fs : List What) (had : List ℕ) → knows_arguments w.memory.table args ≡ false
       → Faulted x missing_value fs (es ++ fault_of None (verdict_of missing_value)) → Wrote (does b (Asks f args)) (Err x) w w es fs had had
   unknown_wrote x es fs had e h = record {
-    did = subst (λ t. Came worth_of (Err x) w fs (seen es w (silent (chosen t)))) (sym e) (failed worth_of x missing_value w es fs h);
+    did = subst (λ t. Came worth_of (Err x) w fs (coming_of es w (silent (chosen t)))) (sym e) (failed worth_of x missing_value w es fs h);
     wrote = subst (λ t. UnlessNoMemory {A = Got} (Err x) (had ≡ had ++ text_in (chosen t))) (sym e) (unless {A = Got} (Err x) (had ≡ had ++ []) (sym (append-nil had)));
   }

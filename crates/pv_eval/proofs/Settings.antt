@@ -9,14 +9,14 @@ use Rattle.pv_types.specs.Ty.{Ty, VoidTy, IntTy, PointerTo, ArrayOf, StructTag, 
 use Rattle.pv_types.specs.Known.{Known, tree}
 use Rattle.pv_types.specs.Layouts.{layout_in}
 use Rattle.pv_typed.specs.TypedUnits.{WholeUnit, layouts}
-use Rattle.pv_typed.specs.Tables.{Stored, whole}
+use Rattle.pv_typed.specs.Tables.{Stored, whole_unit}
 use Rattle.pv_world.specs.Preconditions.{HasSizeOf}
 use Rattle.pv_eval.specs.States.{Setting}
 use Rattle.pv_eval.specs.TypeForms.{shape_of, size_of, pointed_to, element_size}
 use Rattle.pv_eval.specs.Conversions.{how_by, how_to}
 use Rattle.pv_eval.specs.Sizes.{size_in, element_in, how_in}
 
-module _ (b : Setting) (u : Stored) (m : Known) (unit : b.unit ≡ whole u) (known : m ≡ u.known) where
+module _ (b : Setting) (u : Stored) (m : Known) (unit : b.unit ≡ whole_unit u) (known : m ≡ u.known) where
   pub how_is : (implied : Bool) (i j : ℕ) → how_in m implied (tree m i) (tree m j) ≡ how_to b implied (tree u.known i) (tree u.known j)
   how_is implied i j =
       ap (λ k. how_in k implied (tree k i) (tree k j)) known

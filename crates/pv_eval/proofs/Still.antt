@@ -7,8 +7,8 @@ use Rattle.pv_inst.specs.EndingParts.{ending}
 use Rattle.pv_watch.specs.declared.event.What.{What}
 use Rattle.pv_world.specs.Worlds.{Worth, Nothing, World, Wrong}
 use Rattle.pv_world.specs.Doing.{Done, Answers, Fails, Breaks}
-use Rattle.pv_world.specs.Coming.{Gave, Ended, printing, seen, Did, no_worth}
-use Rattle.pv_shadow.specs.Whole.{plain}
+use Rattle.pv_world.specs.Coming.{Gave, Ended, printing, coming_of, Did, no_worth}
+use Rattle.pv_shadow.specs.Whole.{number_bytes}
 use Rattle.pv_world.specs.Accesses.{stored_as}
 use Rattle.pv_world.specs.Objects.{ends_object, fills_object, puts_bytes}
 use Rattle.pv_typed.specs.TypedUnits.{object_at}
@@ -33,7 +33,7 @@ ended_left : (bytes : List ℕ) (z : Wrong) (x : Worth) (w y : World) (es fs : L
 ended_left [] z x w y es fs e = absurd cc
 ended_left (b ∷ bs) z x w y es fs e = absurd cc
 
-left_by : (d : Done) (w : World) (es : List What) (x : Worth) (y : World) (fs : List What) → seen es w d ≡ Gave x y fs → pairs_left d ≡ pair_count y
+left_by : (d : Done) (w : World) (es : List What) (x : Worth) (y : World) (fs : List What) → coming_of es w d ≡ Gave x y fs → pairs_left d ≡ pair_count y
 left_by (Answers v u t) w es x y fs e = gave_left t.bytes v x u y _ fs e
 left_by (Fails z p u t) w es x y fs e = ended_left t.bytes z x u y _ fs e
 left_by (Breaks z b u t) w es x y fs e = ended_left t.bytes z x u y _ fs e
@@ -61,4 +61,4 @@ pub puts_still : (b : Setting) (o offset : ℕ) (l : Lvalue) (v : Worth) (w : Wo
 puts_still b o offset l v w = possible_left (can_put b o offset l v w) w (puts_bytes o (object_at b.unit o).lasting offset (stored_as l.number l.shape v) w) refl
 
 pub puts_text_still : (b : Setting) (o offset size l : ℕ) (w : World) → pairs_left (does b (PutsText o offset size l) w) ≡ pair_count w
-puts_text_still b o offset size l w = possible_left (can_put_text b o offset size l w) w (puts_bytes o (object_at b.unit o).lasting offset (plain None 0 (text_for b size l)) w) refl
+puts_text_still b o offset size l w = possible_left (can_put_text b o offset size l w) w (puts_bytes o (object_at b.unit o).lasting offset (number_bytes None 0 (text_for b size l)) w) refl

@@ -7,10 +7,10 @@ use Rattle.pv_typed.specs.NodeTrees.{expression_at, IsExpression}
 use Rattle.pv_typed.specs.declared.nodes.Typed.{Typed}
 use Rattle.pv_typed.specs.declared.nodes.Typed.TheVariants as typed
 use Rattle.pv_world.specs.declared.got.Got.{Got}
-use Rattle.pv_seq.specs.Sequencing.{Open, opened, sequence_point}
+use Rattle.pv_seq.specs.Sequencing.{Open, open_against, sequence_point}
 use Rattle.pv_seq.specs.Rivals.{top, below}
 use Rattle.pv_eval.specs.States.{Setting, State, Stopped, Res, Stops, then_do}
-use Rattle.pv_eval.specs.Sequenced.{Given, done, operand, later}
+use Rattle.pv_eval.specs.Sequenced.{Given, node_value, operand, later_operand}
 use Rattle.pv_eval.specs.Steps.{Calling}
 use Rattle.pv_eval.specs.Evaluation.{ev}
 use Rattle.pv_eval.specs.declared.failure.Failure.{Failure}
@@ -39,16 +39,16 @@ stack frames js = zip (reverse frames) js
 
 -- what a move does, of the node with these accesses
 abbrev pub means : Setting → Calling → Stored → Move → Open → State → Res Given
-means b call u (move.Give v) j s = done j (worth_of v) s
+means b call u (move.Give v) j s = node_value j (worth_of v) s
 means b call u (move.Operand n f) j s = operand (ev b call (expression_at u n)) j s (frame_after b call u f)
-means b call u (move.Later n f) j s = later (ev b call (expression_at u n)) j s (frame_after b call u f)
-means b call u (move.Ask f args line) j s = then_do (call f (map worth_of args.items) line s) (done (sequence_point j))
+means b call u (move.Later n f) j s = later_operand (ev b call (expression_at u n)) j s (frame_after b call u f)
+means b call u (move.Ask f args line) j s = then_do (call f (map worth_of args.items) line s) (node_value (sequence_point j))
 
 -- what is left of the innermost node
 abbrev pub now_does : Setting → Calling → Stored → Now → Open → State → Res Given
 now_does b call u (now.Due n) j s = ev b call (expression_at u n) j.foes s
-now_does b call u (now.Value v) j s = done j (worth_of v) s
-now_does b call u (now.Asked f args line) j s = then_do (call f (map worth_of args.items) line s) (done (sequence_point j))
+now_does b call u (now.Value v) j s = node_value j (worth_of v) s
+now_does b call u (now.Asked f args line) j s = then_do (call f (map worth_of args.items) line s) (node_value (sequence_point j))
 
 -- what is left of the expression: the innermost node, and then those that wait for its value
 abbrev pub ahead : Setting → Calling → Stored → List Frame → List Open → Now → State → Res Given
@@ -92,7 +92,7 @@ MoveFitsOr u (Err e) = Unit {0}
 
 -- 6.5p2: a node that is due was just begun: it has no accesses yet
 abbrev pub NowFits : Stored → Now → List Open → Type 0
-NowFits u (now.Due n) js = IsExpression u n × (top js ≡ opened (top js).foes)
+NowFits u (now.Due n) js = IsExpression u n × (top js ≡ open_against (top js).foes)
 NowFits u (now.Value v) js = Unit {0}
 NowFits u (now.Asked f args line) js = f < length u.functions
 
@@ -168,9 +168,9 @@ takes_of turn (typed.Indirection a) = turn
 takes_of turn _ = true
 
 -- a value as a move: it is the node's
-abbrev pub given : Result Got Failure → Result Move Failure
-given (Ok v) = Ok (move.Give v)
-given (Err e) = Err e
+abbrev pub move_of : Result Got Failure → Result Move Failure
+move_of (Ok v) = Ok (move.Give v)
+move_of (Err e) = Err e
 
 -- 6.5.13p4, 6.5.14p4, 6.5.15p4: a node that chooses by its first operand
 abbrev pub IsChoice : Typed → Type 0

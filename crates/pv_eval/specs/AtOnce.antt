@@ -11,14 +11,14 @@ use Rattle.pv_world.specs.Worlds.{Worth}
 use Rattle.pv_world.specs.Worths.{truth_int}
 use Rattle.pv_eval.specs.declared.marked.Marked.{Marked}
 use Rattle.pv_eval.specs.States.{Setting, Gives, Stops, Turns, then_do}
-use Rattle.pv_eval.specs.Sequenced.{done}
+use Rattle.pv_eval.specs.Sequenced.{node_value}
 use Rattle.pv_eval.specs.Operations.{Tests, act}
 use Rattle.pv_eval.specs.Steps.{Calling}
 use Rattle.pv_eval.specs.Evaluation.{ev}
 use Rattle.pv_eval.specs.Moments.{Moment, Always, state_of}
 use Rattle.pv_eval.specs.Pieces.{handed_at}
 use Rattle.pv_eval.specs.Ahead.{ahead}
-use Rattle.pv_eval.specs.Machines.{Machine, Started, left_of, value_at, ended}
+use Rattle.pv_eval.specs.Machines.{Machine, Started, left_of, value_at, ended_value}
 use Rattle.pv_eval.specs.Plainly.{has_read, GivesValue}
 
 -- 6.8p4: the full expression has this value
@@ -34,7 +34,7 @@ EvaluatedWhole u e f old new =
 -- the same of the innermost expression
 abbrev pub EvaluatedFirst : Stored → (old new : Machine) → Type 0
 EvaluatedFirst u old new =
-    Always u old.moment (λ b out es. (call : Calling) → new.moment.taken ≤ b.bound → GivesValue (left_of b call u old.started (state_of old.moment out es)) (ended new.started) (state_of new.moment out es))
+    Always u old.moment (λ b out es. (call : Calling) → new.moment.taken ≤ b.bound → GivesValue (left_of b call u old.started (state_of old.moment out es)) (ended_value new.started) (state_of new.moment out es))
 
 -- and under each bound that is met before that, the run stops there: nothing was printed or told, and nothing has changed
 abbrev pub Cut : Stored → NodeId → (old new : Moment) → Type 0
@@ -66,7 +66,7 @@ CutAmong u n old new =
 abbrev pub CallsAmong : Stored → NodeId → (function : ℕ) → List Worth → List Access → (old new : Moment) → Type 0
 CallsAmong u n f got all old new =
     Always u old (λ b out es. (call : Calling) (fs : List Access) → AllRead fs → new.taken ≤ b.bound
-    → ev b call (expression_at u n) fs (state_of old out es) ≡ then_do (call f got (line_of (expression_at u n)) (state_of new out es)) (done (sequence_point (has_read fs all))))
+    → ev b call (expression_at u n) fs (state_of old out es) ≡ then_do (call f got (line_of (expression_at u n)) (state_of new out es)) (node_value (sequence_point (has_read fs all))))
 
 -- an expression that was started goes on so
 abbrev pub GoesOn : Stored → (was now : Started) → (old new : Moment) → Type 0
@@ -79,16 +79,16 @@ ContinuesFirst u old new =
     Always u old.moment (λ b out es. (call : Calling) → new.moment.taken ≤ b.bound → left_of b call u old.started (state_of old.moment out es) ≡ left_of b call u new.started (state_of new.moment out es))
 
 -- a turn more was taken
-abbrev pub ticked : Moment → Moment
-ticked m = record m { taken = m.taken + 1 }
+abbrev pub with_turn_taken : Moment → Moment
+with_turn_taken m = record m { taken = m.taken + 1 }
 
 -- 6.8.3p2: the full expression of a statement has this value, behind the statement's turn
 abbrev pub EvaluatedNext : Stored → NodeId → Worth → (old new : Moment) → Type 0
-EvaluatedNext u n v old new = Evaluated u n v (ticked old) new
+EvaluatedNext u n v old new = Evaluated u n v (with_turn_taken old) new
 
 -- and under each bound that is met between that turn and its end, the run stops there
 abbrev pub CutNext : Stored → NodeId → (old new : Moment) → Type 0
-CutNext u n old new = Cut u n (ticked old) new
+CutNext u n old new = Cut u n (with_turn_taken old) new
 
 -- 6.8.4.1p2: the controlling expression of a statement has a value, behind the statement's turn, that compares so with 0
 pub record TestedNext (u : Stored) (n : NodeId) (t : Bool) (old new : Moment) : Type 0 where

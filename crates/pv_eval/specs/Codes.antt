@@ -13,7 +13,7 @@ use Rattle.pv_typed.specs.declared.nodes.Typed.{Typed}
 use Rattle.pv_typed.specs.declared.nodes.Typed.TheVariants as typed
 use Rattle.pv_typed.specs.TypedTree.{type_of, form_of, Convert}
 use Rattle.pv_typed.specs.TypedUnits.{object_at}
-use Rattle.pv_typed.specs.Tables.{Stored, whole}
+use Rattle.pv_typed.specs.Tables.{Stored, whole_unit}
 use Rattle.pv_typed.specs.NodeTrees.{expression_at, IsExpression}
 use Rattle.pv_seq.specs.Sequencing.{Access}
 use Rattle.pv_world.specs.declared.got.Shape.TheVariants as shape
@@ -72,7 +72,7 @@ pub record IsReadOf (u : Stored) (n a : NodeId) (t : TypeId) : Type 0 where
 
 -- 6.5.1p2: the node designates an object, and this is whether its storage is static
 abbrev pub IsObjectOf : Stored → NodeId → (object : ℕ) → (lasting : Bool) → Type 0
-IsObjectOf u n o lasting = (form_of (expression_at u n) ≡ form_by u (typed.Object o)) × ((object_at (whole u) o).lasting ≡ lasting)
+IsObjectOf u n o lasting = (form_of (expression_at u n) ≡ form_by u (typed.Object o)) × ((object_at (whole_unit u) o).lasting ≡ lasting)
 
 -- 6.3.2.1p3: what an operand gives is what this node gives: the operand itself, or the array to whose first element it points
 pub record IsGivenBy (u : Stored) (a m : NodeId) : Type 0 where

@@ -14,8 +14,8 @@ use Rattle.pv_eval.specs.TypeForms.{lvalue, kind_of, element_size, pointed_to}
 use Rattle.pv_types.specs.Sorts.{is_void, is_pointer}
 use Rattle.pv_eval.specs.Conversions.{how_to}
 use Rattle.pv_eval.specs.Operations.{Converts, Calculates, CalculatesOne, Tests, Negates, Moves, Subtracts, Orders, Equals, Follows, Selects, TakesPart, act}
-use Rattle.pv_eval.specs.Sequenced.{Given, with_given, done, doing, work, operand, later}
-use Rattle.pv_eval.specs.Steps.{Calling, converted, handed, reading, writing, source_of, is_unequal, is_minus, is_after, combining, stepping}
+use Rattle.pv_eval.specs.Sequenced.{Given, with_given, node_value, doing, work, operand, later_operand}
+use Rattle.pv_eval.specs.Steps.{Calling, with_conversion, accepted_value, reading, writing, source_of, is_unequal, is_minus, is_after, combining, stepping}
 use Rattle.pv_eval.specs.Arguments.{argument}
 use Rattle.pv_eval.specs.Evaluation.{ev, ev_call, ev_through, ev_ask}
 use Rattle.pv_eval.specs.declared.frames.Stage.{Stage}
@@ -27,39 +27,39 @@ use Rattle.pv_world.specs.Coming.{worth_of}
 -- what a node does with the value of its second operand, beside that of the first
 abbrev pub second_after : Setting → Calling → Ty → ℕ → Form → Worth → Open → Worth → State → Res Given
 second_after b call t line (Subscript x y) v j w s = work b line (Moves false (is_pointer (type_of x)) (element_size b (if is_pointer (type_of x) then type_of x else type_of y)) v w) j s
-second_after b call t line (Arithmetic o x y) v j w s = then_do (converted b x v s) (λ v s. then_do (converted b y w s) (λ w s. work b line (Calculates o (kind_of (type_of x)) v w) j s))
+second_after b call t line (Arithmetic o x y) v j w s = then_do (with_conversion b x v s) (λ v s. then_do (with_conversion b y w s) (λ w s. work b line (Calculates o (kind_of (type_of x)) v w) j s))
 second_after b call t line (PointerSum sign x y) v j w s = work b line (Moves (is_minus sign) (is_pointer (type_of x)) (element_size b t) v w) j s
 second_after b call t line (PointerDifference x y) v j w s = work b line (Subtracts (element_size b (type_of x)) v w) j s
 second_after b call t line (PointerOrder o x y) v j w s = work b line (Orders o v w) j s
-second_after b call t line (PointerEquality o x y) v j w s = then_do (converted b x v s) (λ v s. then_do (converted b y w s) (λ w s. work b line (Equals (is_unequal o) v w) j s))
-second_after b call t line (Assign x y) p j v s = then_do (converted b y v s) (λ v s. writing b (lvalue b (type_of x)) line p v (source_of y v) j s done)
-second_after b call t line _ v j w s = done j w s
+second_after b call t line (PointerEquality o x y) v j w s = then_do (with_conversion b x v s) (λ v s. then_do (with_conversion b y w s) (λ w s. work b line (Equals (is_unequal o) v w) j s))
+second_after b call t line (Assign x y) p j v s = then_do (with_conversion b y v s) (λ v s. writing b (lvalue b (type_of x)) line p v (source_of y v) j s node_value)
+second_after b call t line _ v j w s = node_value j w s
 
 -- 6.5.16.2p3: the same, beside the place and the value that was read there
 abbrev pub both_after : Setting → Calling → Ty → ℕ → Form → Worth → Worth → Open → Worth → State → Res Given
 both_after b call t line (CompoundAssign o k x y) p v j w s =
-    then_do (act b line (Converts (Rounds k) v) s) (λ v s. then_do (converted b y w s) (λ w s.
-    then_do (combining b line o k (kind_of t) v w s) (λ v s. writing b (lvalue b (type_of x)) line p v None j s done)))
+    then_do (act b line (Converts (Rounds k) v) s) (λ v s. then_do (with_conversion b y w s) (λ w s.
+    then_do (combining b line o k (kind_of t) v w s) (λ v s. writing b (lvalue b (type_of x)) line p v None j s node_value)))
 both_after b call t line (PointerAssign sign x y) p v j w s =
-    doing b line (Moves (is_minus sign) true (element_size b t) v w) s (λ v s. writing b (lvalue b (type_of x)) line p v None j s done)
-both_after b call t line _ p v j w s = done j w s
+    doing b line (Moves (is_minus sign) true (element_size b t) v w) s (λ v s. writing b (lvalue b (type_of x)) line p v None j s node_value)
+both_after b call t line _ p v j w s = node_value j w s
 
 -- 6.5.13p4, 6.5.14p4, 6.5.15p4, 6.5.17p2: with the value of the operand after a sequence point; of a conditional the second or the third
 abbrev pub later_after : Setting → Calling → Ty → ℕ → Form → Bool → Open → Worth → State → Res Given
 later_after b call t line (LogicalAnd x y) side j w s = work b line (Tests w) j s
 later_after b call t line (LogicalOr x y) side j w s = work b line (Tests w) j s
-later_after b call t line (Conditional x y z) true j w s = then_do (converted b y w s) (done j)
-later_after b call t line (Conditional x y z) false j w s = then_do (converted b z w s) (done j)
-later_after b call t line _ side j w s = done j w s
+later_after b call t line (Conditional x y z) true j w s = then_do (with_conversion b y w s) (node_value j)
+later_after b call t line (Conditional x y z) false j w s = then_do (with_conversion b z w s) (node_value j)
+later_after b call t line _ side j w s = node_value j w s
 
 -- with the value of the first operand
 abbrev pub first_after : Setting → Calling → Ty → ℕ → Form → Open → Worth → State → Res Given
-first_after b call t line (Read x) j p s = reading b (lvalue b (type_of x)) line p j s done
+first_after b call t line (Read x) j p s = reading b (lvalue b (type_of x)) line p j s node_value
 first_after b call t line (Indirection x) j v s = work b line (Follows (is_void t) v) j s
 first_after b call t line (Member x offset) j v s = work b line (Selects offset v) j s
 first_after b call t line (Arrow x offset) j v s = work b line (Selects offset v) j s
 first_after b call t line (MemberOfValue x offset) j v s = work b line (TakesPart offset (lvalue b t) v) j s
-first_after b call t line (Unary o x) j v s = then_do (converted b x v s) (λ v s. work b line (CalculatesOne o (kind_of t) v) j s)
+first_after b call t line (Unary o x) j v s = then_do (with_conversion b x v s) (λ v s. work b line (CalculatesOne o (kind_of t) v) j s)
 first_after b call t line (Not x) j v s = work b line (Negates v) j s
 first_after b call t line (Cast x) j v s = work b line (Converts (how_to b false (type_of x) t) v) j s
 first_after b call t line (Subscript x y) j v s = operand (ev b call y) j s (second_after b call t line (Subscript x y) v)
@@ -71,20 +71,20 @@ first_after b call t line (PointerEquality o x y) j v s = operand (ev b call y) 
 first_after b call t line (Assign x y) j v s = operand (ev b call y) j s (second_after b call t line (Assign x y) v)
 first_after b call t line (CallPointer x xs) j v s = ev_through b call line (pointed_to (type_of x)) v [] xs j s
 first_after b call t line (LogicalAnd x y) j v s =
-    doing b line (Tests v) s (λ v s. if is_true v then later (ev b call y) (sequence_point j) s (later_after b call t line (LogicalAnd x y) true) else done (sequence_point j) v s)
+    doing b line (Tests v) s (λ v s. if is_true v then later_operand (ev b call y) (sequence_point j) s (later_after b call t line (LogicalAnd x y) true) else node_value (sequence_point j) v s)
 first_after b call t line (LogicalOr x y) j v s =
-    doing b line (Tests v) s (λ v s. if is_true v then done (sequence_point j) v s else later (ev b call y) (sequence_point j) s (later_after b call t line (LogicalOr x y) true))
+    doing b line (Tests v) s (λ v s. if is_true v then node_value (sequence_point j) v s else later_operand (ev b call y) (sequence_point j) s (later_after b call t line (LogicalOr x y) true))
 first_after b call t line (Conditional x y z) j v s =
     doing b line (Tests v) s (λ v s. if is_true v
-    then later (ev b call y) (sequence_point j) s (later_after b call t line (Conditional x y z) true)
-    else later (ev b call z) (sequence_point j) s (later_after b call t line (Conditional x y z) false))
-first_after b call t line (Comma x y) j v s = later (ev b call y) (sequence_point j) s (later_after b call t line (Comma x y) true)
+    then later_operand (ev b call y) (sequence_point j) s (later_after b call t line (Conditional x y z) true)
+    else later_operand (ev b call z) (sequence_point j) s (later_after b call t line (Conditional x y z) false))
+first_after b call t line (Comma x y) j v s = later_operand (ev b call y) (sequence_point j) s (later_after b call t line (Comma x y) true)
 first_after b call t line (CompoundAssign o k x y) j p s = reading b (lvalue b (type_of x)) line p j s (λ j v s. operand (ev b call y) j s (both_after b call t line (CompoundAssign o k x y) p v))
 first_after b call t line (PointerAssign sign x y) j p s = reading b (lvalue b (type_of x)) line p j s (λ j v s. operand (ev b call y) j s (both_after b call t line (PointerAssign sign x y) p v))
 first_after b call t line (Increment o x) j p s =
     reading b (lvalue b (type_of x)) line p j s (λ j v s.
-    then_do (stepping b line t o v s) (λ w s. writing b (lvalue b (type_of x)) line p w None j s (λ j w s. done j (if is_after o then v else w) s)))
-first_after b call t line _ j v s = done j v s
+    then_do (stepping b line t o v s) (λ w s. writing b (lvalue b (type_of x)) line p w None j s (λ j w s. node_value j (if is_after o then v else w) s)))
+first_after b call t line _ j v s = node_value j v s
 
 -- 6.5.2.2: argument number i
 abbrev pub argument_at : Arguments → ℕ → TypedTree
@@ -129,14 +129,14 @@ passed_of (p ∷ got) = got
 
 -- 6.5.2.2p10: with the value of argument number i
 abbrev pub argument_after : Setting → Calling → Ty → ℕ → Form → (i : ℕ) → List Worth → Open → Worth → State → Res Given
-argument_after b call t line (Call f xs) i got j v s = then_do (handed b (argument_at xs i) v s) (λ v s. ev_call b call line f (got ++ v ∷ []) (arguments_from xs (i + 1)) j s)
+argument_after b call t line (Call f xs) i got j v s = then_do (accepted_value b (argument_at xs i) v s) (λ v s. ev_call b call line f (got ++ v ∷ []) (arguments_from xs (i + 1)) j s)
 -- what is called stands in front of the arguments of a call by a value
 argument_after b call t line (CallPointer x xs) zero got j v s = ev_through b call line (pointed_to (type_of x)) v [] xs j s
 argument_after b call t line (CallPointer x xs) (suc i) got j v s =
-    then_do (handed b (argument_at xs i) v s) (λ v s. ev_through b call line (pointed_to (type_of x)) (callee_of got) (passed_of got ++ v ∷ []) (arguments_from xs (suc i)) j s)
+    then_do (accepted_value b (argument_at xs i) v s) (λ v s. ev_through b call line (pointed_to (type_of x)) (callee_of got) (passed_of got ++ v ∷ []) (arguments_from xs (suc i)) j s)
 argument_after b call t line (LibraryCall f xs) i got j v s =
-    then_do (handed b (argument_at xs i) v s) (λ v s. ev_ask b call line f (asked_with xs got ++ argument (argument_at xs i) v ∷ []) (arguments_from xs (i + 1)) j s)
-argument_after b call t line _ i got j v s = done j v s
+    then_do (accepted_value b (argument_at xs i) v s) (λ v s. ev_ask b call line f (asked_with xs got ++ argument (argument_at xs i) v ∷ []) (arguments_from xs (i + 1)) j s)
+argument_after b call t line _ i got j v s = node_value j v s
 
 -- with the value of the operand for which it waits
 abbrev pub stage_after : Setting → Calling → Ty → ℕ → Form → Stage → Open → Worth → State → Res Given

@@ -4,7 +4,7 @@ use Rattle.pv_tree.specs.declared.nodes.NodeId.{NodeId}
 use Rattle.pv_typed.specs.Known.{Each}
 use Rattle.pv_typed.specs.Tables.{Stored}
 use Rattle.pv_typed.specs.NodeTrees.{IsExpression}
-use Rattle.pv_seq.specs.Sequencing.{opened, sequence_point}
+use Rattle.pv_seq.specs.Sequencing.{open_against, sequence_point}
 use Rattle.pv_seq.specs.Rivals.{top, below}
 use Rattle.pv_world.specs.Worlds.{Worth}
 use Rattle.pv_world.specs.Coming.{wrong_for}
@@ -24,7 +24,7 @@ use Rattle.pv_eval.specs.Machines.{Started, left_of, answered_of, value_at, give
 -- an expression was begun: its node is due, nothing waits in it, and it has no accesses
 abbrev pub IsBegun : NodeId → List Started → List Started → Type 0
 IsBegun n [] old = ⊥
-IsBegun n (e ∷ es) old = (e.root ≡ n) × (e.place ≡ now.Due n) × (e.frames ≡ []) × (e.opens ≡ opened [] ∷ []) × (es ≡ old)
+IsBegun n (e ∷ es) old = (e.root ≡ n) × (e.place ≡ now.Due n) × (e.frames ≡ []) × (e.opens ≡ open_against [] ∷ []) × (es ≡ old)
 
 -- 6.5.2.2p10: the arguments of a call were taken
 abbrev pub IsTaken : List Started → List Started → Type 0

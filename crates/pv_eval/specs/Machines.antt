@@ -9,7 +9,7 @@ use Rattle.pv_seq.specs.Rivals.{top, below}
 use Rattle.pv_world.specs.Worlds.{Worth, Nothing}
 use Rattle.pv_world.specs.Coming.{worth_of}
 use Rattle.pv_eval.specs.States.{Setting, State, Unreached, Res, Stops, then_do}
-use Rattle.pv_eval.specs.Sequenced.{Given, done}
+use Rattle.pv_eval.specs.Sequenced.{Given, node_value}
 use Rattle.pv_eval.specs.Steps.{Calling}
 use Rattle.pv_eval.specs.declared.frames.Frame.{Frame}
 use Rattle.pv_eval.specs.declared.frames.Now.{Now}
@@ -43,7 +43,7 @@ left_of b call u (e ∷ es) s = ahead b call u e.frames e.opens e.place s
 -- 6.5.2.2: what is left of it once a call has given its value
 abbrev pub answered_of : Setting → Calling → Stored → List Started → Worth → State → Res Given
 answered_of b call u [] v s = Stops Unreached s
-answered_of b call u (e ∷ es) v s = then_do (done (sequence_point (top e.opens)) v s) (rest (after b call u) (stack e.frames (below e.opens)))
+answered_of b call u (e ∷ es) v s = then_do (node_value (sequence_point (top e.opens)) v s) (rest (after b call u) (stack e.frames (below e.opens)))
 
 -- the value of an expression that has ended
 abbrev pub value_at : Now → Worth
@@ -52,9 +52,9 @@ value_at (now.Value v) = worth_of v
 value_at (now.Asked f args line) = Nothing
 
 -- the value of the innermost expression, where it has ended
-abbrev pub ended : List Started → Worth
-ended [] = Nothing
-ended (e ∷ es) = value_at e.place
+abbrev pub ended_value : List Started → Worth
+ended_value [] = Nothing
+ended_value (e ∷ es) = value_at e.place
 
 -- 6.5p2: its value with its accesses
 abbrev pub given_by : List Started → Given

@@ -7,11 +7,11 @@ use Rattle.pv_typed.specs.TypedUnits.{TypedFunction}
 use Rattle.std.specs.Prelude.{ℕ, Bool, not, ◌==◌}
 use Rattle.pv_eval.specs.Objects.{heap_name, instance_for}
 use Rattle.pv_world.specs.Worths.{pointer}
-use Rattle.pv_world.specs.Telling.{quiet}
+use Rattle.pv_world.specs.Telling.{no_telling}
 
 -- an identifier designates the object in scope
 abbrev pub names_object : Setting → ℕ → World → Done
-names_object b o w = Answers (pointer (object.address_of w (instance_for b o w))) w quiet
+names_object b o w = Answers (pointer (object.address_of w (instance_for b o w))) w no_telling
 
 -- a function whose name isn't that of allocations, as none in a checked unit is
 abbrev pub can_place : TypedFunction → Bool

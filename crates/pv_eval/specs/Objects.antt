@@ -4,12 +4,12 @@
 use Rattle.std.specs.Prelude.{ℕ, Bool, not, ◌&&◌, ◌==◌, List, Option, None, take, length, nat_le, if◌then◌else◌}
 use Rattle.pv_script.specs.Names.{name_at as text_of}
 use Rattle.pv_inst.specs.Placing.{Request}
-use Rattle.pv_shadow.specs.Whole.{plain}
+use Rattle.pv_shadow.specs.Whole.{number_bytes}
 use Rattle.pv_types.specs.Ty.{Ty}
 use Rattle.pv_types.specs.Layouts.{is_complete_in}
 use Rattle.pv_typed.specs.TypedUnits.{TypedObject, layouts, object_at, function_at, literal_at}
 use Rattle.pv_world.specs.Worlds.{Worth, Nothing, World}
-use Rattle.pv_world.specs.Telling.{quiet}
+use Rattle.pv_world.specs.Telling.{no_telling}
 use Rattle.pv_world.specs.Doing.{Done, Answers}
 use Rattle.pv_world.specs.Accesses.{stored_as}
 use Rattle.pv_world.specs.Objects as object
@@ -19,7 +19,7 @@ use Rattle.pv_world.specs.Suiting.{is_size, is_stored, knows_worth, is_live, has
 
 -- what is done to an object (6.2.4, 6.7.9) is nothing where it can't be done, which never comes in a checked unit
 abbrev pub where_possible : Bool → World → Done → Done
-where_possible can w d = if can then d else Answers Nothing w quiet
+where_possible can w d = if can then d else Answers Nothing w no_telling
 
 -- 6.2.5p1: a complete type, whose size is known
 abbrev pub has_extent : Setting → Ty → Bool
@@ -88,4 +88,4 @@ can_put_text b o offset size l w = is_size size && has_room w (instance_for b o 
 -- 6.7.9p14: the array has these characters, perhaps without the zero
 abbrev pub puts_text : Setting → ℕ → (offset size literal : ℕ) → World → Done
 puts_text b o offset size l w =
-    where_possible (can_put_text b o offset size l w) w (object.puts_bytes o (object_at b.unit o).lasting offset (plain None 0 (text_for b size l)) w)
+    where_possible (can_put_text b o offset size l w) w (object.puts_bytes o (object_at b.unit o).lasting offset (number_bytes None 0 (text_for b size l)) w)

@@ -12,15 +12,15 @@ use Rattle.pv_seq.specs.Sequencing.{Access}
 use Rattle.pv_libc.specs.declared.values.Arg.{Arg}
 use Rattle.pv_world.specs.declared.got.How.{How}
 use Rattle.pv_world.specs.Worlds.{Worth, Nothing, World}
-use Rattle.pv_world.specs.Worths.{truth_int, int_of, pointer, plain, present, computed, pointer_of}
-use Rattle.pv_world.specs.Telling.{quiet}
+use Rattle.pv_world.specs.Worths.{truth_int, int_of, pointer, on_set_value, on_present_value, arithmetic_result, pointer_of}
+use Rattle.pv_world.specs.Telling.{no_telling}
 use Rattle.pv_world.specs.Doing.{Done, Answers}
 use Rattle.pv_world.specs.Conversions.{converts, opposite, tests}
 use Rattle.pv_world.specs.Calculations.{follows_to}
 use Rattle.pv_world.specs.Pointers.{moves, subtracts, orders, equals, is_order, moved_by, finds}
 use Rattle.pv_world.specs.Objects as object
 use Rattle.pv_eval.specs.States.{Setting, State, Res}
-use Rattle.pv_eval.specs.Acting.{acted}
+use Rattle.pv_eval.specs.Acting.{after_doing}
 use Rattle.pv_eval.specs.TypeForms.{Lvalue}
 use Rattle.pv_eval.specs.Accesses.{reads, writes}
 use Rattle.pv_eval.specs.Objects.{makes, ends, makes_literal, makes_function, fills, puts, puts_text, instance_for}
@@ -98,31 +98,31 @@ suits b _ w = true
 -- 6.3, 6.5, 6.7.9, 7: what each operation does, one line an operation
 abbrev pub works : Setting → Op → World → Done
 works b (Converts how v) = converts how v
-works b (Calculates op k v x) = λ w. plain v w (λ v. plain x w (λ x. computed w (binary_of op k (int_of v) (int_of x))))
-works b (CalculatesOne op k v) = λ w. plain v w (λ v. computed w (unary_of op k (int_of v)))
+works b (Calculates op k v x) = λ w. on_set_value v w (λ v. on_set_value x w (λ x. arithmetic_result w (binary_of op k (int_of v) (int_of x))))
+works b (CalculatesOne op k v) = λ w. on_set_value v w (λ v. arithmetic_result w (unary_of op k (int_of v)))
 works b (Tests v) = tests truth_int v
 works b (Negates v) = tests opposite v
-works b (Accepts v) = λ w. present v w (λ v. Answers v w quiet)
-works b (Needs v) = λ w. plain v w (λ v. Answers v w quiet)
+works b (Accepts v) = λ w. on_present_value v w (λ v. Answers v w no_telling)
+works b (Needs v) = λ w. on_set_value v w (λ v. Answers v w no_telling)
 works b (Moves minus first size v x) = moves minus first size v x
 works b (Subtracts size v x) = subtracts size v x
 works b (Orders op v x) = orders op v x
 works b (Equals negated v x) = equals negated v x
 works b (Follows nothing v) = follows_to nothing v
-works b (Selects offset v) = λ w. present v w (λ v. moved_by w (pointer_of v) (select w.memory.table (pointer_of v) offset))
+works b (Selects offset v) = λ w. on_present_value v w (λ v. moved_by w (pointer_of v) (select w.memory.table (pointer_of v) offset))
 works b (Finds t v) = finds (may_call b t) v
 works b (TakesPart offset l v) = takes_bytes offset l.size l.shape v
 works b (Reads l place rivals) = reads b l place rivals
 works b (Writes l place v from rivals) = writes b l place v from rivals
-works b (NamesObject o) = λ w. Answers (pointer (object.address_of w (instance_for b o w))) w quiet
-works b (NamesLiteral l) = λ w. Answers (pointer (object.address_of w (object.literal_of w l))) w quiet
-works b (NamesFunction f) = λ w. Answers (pointer (object.address_of w (object.function_of w f))) w quiet
+works b (NamesObject o) = λ w. Answers (pointer (object.address_of w (instance_for b o w))) w no_telling
+works b (NamesLiteral l) = λ w. Answers (pointer (object.address_of w (object.literal_of w l))) w no_telling
+works b (NamesFunction f) = λ w. Answers (pointer (object.address_of w (object.function_of w f))) w no_telling
 works b (Makes o) = makes b o
 works b (MakesLiteral l) = makes_literal b l
 works b (MakesFunction f) = makes_function b f
 works b (Ends o) = ends b o
-works b BeginsBody = λ w. Answers Nothing (record w { bodies = map.empty ∷ w.bodies }) quiet
-works b EndsBody = λ w. Answers Nothing (record w { bodies = drop 1 w.bodies }) quiet
+works b BeginsBody = λ w. Answers Nothing (record w { bodies = map.empty ∷ w.bodies }) no_telling
+works b EndsBody = λ w. Answers Nothing (record w { bodies = drop 1 w.bodies }) no_telling
 works b (Fills o v) = fills b o v
 works b (Puts o offset l v) = puts b o offset l v
 works b (PutsText o offset size l) = puts_text b o offset size l
@@ -134,4 +134,4 @@ does b op w = where_suiting (suits b op w) (works b op) w
 
 -- what an operation does in the state of a run (5.1.2.3), for the node in this line
 abbrev pub act : Setting → (line : ℕ) → Op → State → Res Worth
-act b line op s = acted b line (does b op s.world) s
+act b line op s = after_doing b line (does b op s.world) s

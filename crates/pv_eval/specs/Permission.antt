@@ -9,7 +9,7 @@ use Rattle.pv_inst.specs.declared.values.Kind.{Kind}
 use Rattle.pv_inst.specs.declared.values.Kind.TheVariants.{Declared, Literal, Heap, Function}
 use Rattle.pv_inst.specs.Table.{instance_at}
 use Rattle.pv_shadow.specs.declared.byte.Byte.{Byte}
-use Rattle.pv_shadow.specs.Bytes.{read}
+use Rattle.pv_shadow.specs.Bytes.{bytes_from}
 use Rattle.pv_object.specs.declared.values.Reach.{Reach}
 use Rattle.pv_typed.specs.TypedUnits.{layouts, object_at}
 use Rattle.pv_world.specs.Worlds.{World}
@@ -38,7 +38,7 @@ permits_in b w l at writes (Declared constant) = permits_object b (type_by b (ow
 permits_in b w l at writes Literal = is_character l.t
 -- 6.2.5p1: a function is no object: no access comes to it
 permits_in b w l at writes Function = false
-permits_in b w l at writes Heap = writes || permits_marks b.types (parts_of b l.t) (map (λ (x : Byte). x.mark) (read w.memory.bytes at.address l.size))
+permits_in b w l at writes Heap = writes || permits_marks b.types (parts_of b l.t) (map (λ (x : Byte). x.mark) (bytes_from w.memory.bytes at.address l.size))
 
 -- 6.5p7: the instance that was reached is there, and its kind permits the access
 abbrev pub permits_row : Setting → World → Lvalue → Reach → (writes : Bool) → Option Instance → Bool

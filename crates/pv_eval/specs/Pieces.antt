@@ -14,7 +14,7 @@ use Rattle.pv_typed.specs.NodeTrees.{expression_at, list_at}
 use Rattle.pv_typed.specs.declared.nodes.IncrementOperator.{IncrementOperator}
 use Rattle.pv_typed.specs.declared.nodes.Sign.{Sign}
 use Rattle.pv_typed.specs.declared.nodes.Typed.{Typed}
-use Rattle.pv_seq.specs.Sequencing.{Access, Open, opened}
+use Rattle.pv_seq.specs.Sequencing.{Access, Open, open_against}
 use Rattle.pv_seq.specs.Rivals.{top}
 use Rattle.pv_world.specs.Worlds.{Worth}
 use Rattle.pv_world.specs.Coming.{worth_of}
@@ -23,8 +23,8 @@ use Rattle.pv_world.specs.declared.got.How.TheVariants.{Rounds}
 use Rattle.pv_eval.specs.States.{Setting, State, Res, then_do}
 use Rattle.pv_eval.specs.TypeForms.{lvalue, kind_of, element_size, pointed_to}
 use Rattle.pv_eval.specs.Operations.{Accepts, Needs, Converts, Calculates, CalculatesOne, Equals, Moves, act}
-use Rattle.pv_eval.specs.Sequenced.{Given, done, work, operand}
-use Rattle.pv_eval.specs.Steps.{Calling, converted, reading, writing, source_of, is_unequal, is_minus, is_after, combining, stepping}
+use Rattle.pv_eval.specs.Sequenced.{Given, node_value, work, operand}
+use Rattle.pv_eval.specs.Steps.{Calling, with_conversion, reading, writing, source_of, is_unequal, is_minus, is_after, combining, stepping}
 use Rattle.pv_eval.specs.Evaluation.{ev, ev_form, ev_through, ev_ask}
 use Rattle.pv_eval.specs.Moments.{Moment, Always, state_of}
 use Rattle.pv_eval.specs.Frames.{first_after, second_after, both_after, later_after, argument_after, arguments_from, callee_of, passed_of, asked_with, frame_after}
@@ -47,24 +47,24 @@ LedAnywhere u part r old new =
 abbrev pub LedInTurn : Stored → NodeId → Result Move Failure → (old new : Moment) → Type 0
 LedInTurn u n r old new =
     Always u old (λ b out es. (call : Calling) (j : Open) (js : List Open) → old.taken < b.bound
-    → Led b call u (ev b call (expression_at u n) j.foes (state_of old out es)) r (opened j.foes ∷ js) (state_of new out es))
+    → Led b call u (ev b call (expression_at u n) j.foes (state_of old out es)) r (open_against j.foes ∷ js) (state_of new out es))
 
 -- the same of a node of this kind that took its turn, whatever its type is
 abbrev pub LedAfterTurn : Stored → (line : ℕ) → Typed → Result Move Failure → (old new : Moment) → Type 0
 LedAfterTurn u line x r old new =
     Always u old (λ b out es. (call : Calling) (t : Ty) (j : Open) (js : List Open) →
-    Led b call u (ev_form b call t line (form_in u.lists (nodes u) x) j.foes (state_of old out es)) r (opened j.foes ∷ js) (state_of new out es))
+    Led b call u (ev_form b call t line (form_in u.lists (nodes u) x) j.foes (state_of old out es)) r (open_against j.foes ∷ js) (state_of new out es))
 
 -- 7.1.4: the same of a call of the library, none of whose arguments was evaluated
 abbrev pub LedByLibrary : Stored → (line : ℕ) → Library → ListId → Result Move Failure → (old new : Moment) → Type 0
 LedByLibrary u line f l r old new =
     Always u old (λ b out es. (call : Calling) (fs : List Access) (js : List Open) →
-    Led b call u (ev_ask b call line f [] (arguments_in (nodes u) (list_at u l)) (opened fs) (state_of old out es)) r (opened fs ∷ js) (state_of new out es))
+    Led b call u (ev_ask b call line f [] (arguments_in (nodes u) (list_at u l)) (open_against fs) (state_of old out es)) r (open_against fs ∷ js) (state_of new out es))
 
 -- a node that takes no turn begins with this operand
 abbrev pub BeginsWith : Stored → (node inner : NodeId) → Setting → Calling → List Access → State → Type 0
 BeginsWith u n a b call fs s =
-    ev b call (expression_at u n) fs s ≡ operand (ev b call (expression_at u a)) (opened fs) s (frame_after b call u (record { node = n; stage = stage.First }))
+    ev b call (expression_at u n) fs s ≡ operand (ev b call (expression_at u a)) (open_against fs) s (frame_after b call u (record { node = n; stage = stage.First }))
 
 -- with the value for which a node waits
 abbrev pub with_frame : Stored → Frame → Worth → Setting → Calling → Open → State → Res Given
@@ -113,34 +113,34 @@ asks_with u line f l got b call j s =
 -- 6.5.3.3: the operator on one integer
 abbrev pub calculates_one : Stored → NodeId → (line : ℕ) → UnOp → (inner : NodeId) → Worth → Setting → Calling → Open → State → Res Given
 calculates_one u n line o a v b call j s =
-    then_do (converted b (expression_at u a) v s) (λ v s. work b line (CalculatesOne o (kind_of (type_of (expression_at u n))) v) j s)
+    then_do (with_conversion b (expression_at u a) v s) (λ v s. work b line (CalculatesOne o (kind_of (type_of (expression_at u n))) v) j s)
 
 -- 6.5.5 to 6.5.12: the operator on two integers, of which the left one is converted
 abbrev pub calculates_right : Stored → (line : ℕ) → BinOp → (left right : NodeId) → (first second : Worth) → Setting → Calling → Open → State → Res Given
 calculates_right u line o a d v w b call j s =
-    then_do (converted b (expression_at u d) w s) (λ w s. work b line (Calculates o (kind_of (type_of (expression_at u a))) v w) j s)
+    then_do (with_conversion b (expression_at u d) w s) (λ w s. work b line (Calculates o (kind_of (type_of (expression_at u a))) v w) j s)
 
 -- 6.5.5 to 6.5.12: the operator on two integers, the left one converted first
 abbrev pub calculates : Stored → (line : ℕ) → BinOp → (left right : NodeId) → (first second : Worth) → Setting → Calling → Open → State → Res Given
-calculates u line o a d v w b call j s = then_do (converted b (expression_at u a) v s) (λ v s. calculates_right u line o a d v w b call j s)
+calculates u line o a d v w b call j s = then_do (with_conversion b (expression_at u a) v s) (λ v s. calculates_right u line o a d v w b call j s)
 
 -- 6.5.9p6: whether two pointers are equal, of which the left one is converted
 abbrev pub compares_right : Stored → (line : ℕ) → BinOp → (right : NodeId) → (first second : Worth) → Setting → Calling → Open → State → Res Given
-compares_right u line o d v w b call j s = then_do (converted b (expression_at u d) w s) (λ w s. work b line (Equals (is_unequal o) v w) j s)
+compares_right u line o d v w b call j s = then_do (with_conversion b (expression_at u d) w s) (λ w s. work b line (Equals (is_unequal o) v w) j s)
 
 -- 6.5.9p6: whether two pointers are equal, the left one converted first
 abbrev pub compares : Stored → (line : ℕ) → BinOp → (left right : NodeId) → (first second : Worth) → Setting → Calling → Open → State → Res Given
-compares u line o a d v w b call j s = then_do (converted b (expression_at u a) v s) (λ v s. compares_right u line o d v w b call j s)
+compares u line o a d v w b call j s = then_do (with_conversion b (expression_at u a) v s) (λ v s. compares_right u line o d v w b call j s)
 
 -- 6.5.16.1p2: the right value is converted and stored
 abbrev pub assigns : Stored → (line : ℕ) → (left right : NodeId) → (place value : Worth) → Setting → Calling → Open → State → Res Given
 assigns u line a d p w b call j s =
-    then_do (converted b (expression_at u d) w s) (λ v s.
-    writing b (lvalue b (type_of (expression_at u a))) line p v (source_of (expression_at u d) v) j s done)
+    then_do (with_conversion b (expression_at u d) w s) (λ v s.
+    writing b (lvalue b (type_of (expression_at u a))) line p v (source_of (expression_at u d) v) j s node_value)
 
 -- 6.5.16p3: the value is stored back, and is the node's
 abbrev pub writes_back : Stored → (line : ℕ) → (left : NodeId) → (place value : Worth) → Setting → Calling → Open → State → Res Given
-writes_back u line a p v b call j s = writing b (lvalue b (type_of (expression_at u a))) line p v None j s done
+writes_back u line a p v b call j s = writing b (lvalue b (type_of (expression_at u a))) line p v None j s node_value
 
 -- 6.5.16.2p3: the operator, the conversion back, and the store
 abbrev pub combines : Stored → (line : ℕ) → BinOp → (kind back : IntKind) → (left : NodeId) → (place read second : Worth) → Setting → Calling → Open → State → Res Given
@@ -149,7 +149,7 @@ combines u line o kind back a p v w b call j s = then_do (combining b line o kin
 -- 6.5.16.2p3: the same, the right operand converted first
 abbrev pub combines_right : Stored → NodeId → (line : ℕ) → BinOp → IntKind → (left right : NodeId) → (place read second : Worth) → Setting → Calling → Open → State → Res Given
 combines_right u n line o kind a d p v w b call j s =
-    then_do (converted b (expression_at u d) w s) (λ w s. combines u line o kind (kind_of (type_of (expression_at u n))) a p v w b call j s)
+    then_do (with_conversion b (expression_at u d) w s) (λ w s. combines u line o kind (kind_of (type_of (expression_at u n))) a p v w b call j s)
 
 -- 6.5.16.2p3: the same, what was read converted before that
 abbrev pub combines_both : Stored → NodeId → (line : ℕ) → BinOp → IntKind → (left right : NodeId) → (place read second : Worth) → Setting → Calling → Open → State → Res Given
@@ -170,7 +170,7 @@ reads_place u n line x a d p b call j s =
 -- 6.5.2.4p2, 6.5.3.1p2: the new value is stored; the node's is the old one or the new one
 abbrev pub writes_step : Stored → (line : ℕ) → IncrementOperator → NodeId → (place before after : Worth) → Setting → Calling → Open → State → Res Given
 writes_step u line o a p v w b call j s =
-    writing b (lvalue b (type_of (expression_at u a))) line p w None j s (λ j w s. done j (if is_after o then v else w) s)
+    writing b (lvalue b (type_of (expression_at u a))) line p w None j s (λ j w s. node_value j (if is_after o then v else w) s)
 
 -- 6.5.2.4p2, 6.5.3.1p2: 1 is added or taken off, and the new value stored
 abbrev pub steps : Stored → NodeId → (line : ℕ) → IncrementOperator → (inner : NodeId) → (place before read : Worth) → Setting → Calling → Open → State → Res Given
@@ -184,8 +184,8 @@ increments u n line o a p b call j s =
 
 -- 6.8.6.4p3: a value converted as if by assignment, and there, at this line
 abbrev pub handed_at : Setting → (line : ℕ) → TypedTree → Worth → State → Res Worth
-handed_at b line x v s = then_do (converted b x v s) (λ v s. act b line (Accepts v) s)
+handed_at b line x v s = then_do (with_conversion b x v s) (λ v s. act b line (Accepts v) s)
 
 -- 6.8.4.2p5: a value converted, of which a number is needed
 abbrev pub needed_of : Setting → TypedTree → Worth → State → Res Worth
-needed_of b x v s = then_do (converted b x v s) (λ v s. act b (line_of x) (Needs v) s)
+needed_of b x v s = then_do (with_conversion b x v s) (λ v s. act b (line_of x) (Needs v) s)

@@ -8,7 +8,7 @@ use Rattle.pv_eval.specs.declared.failure.Failure.TheVariants as failure
 use Rattle.pv_eval.specs.declared.siding.Side.{Side}
 use Rattle.pv_eval.specs.declared.siding.Side.TheVariants.{Free, Ended, Keeps}
 use Rattle.pv_eval.specs.States.{State, Stopped, Res, Gives, Stops}
-use Rattle.pv_eval.specs.Acting.{noted, by_side}
+use Rattle.pv_eval.specs.Acting.{after_telling, by_side}
 use Rattle.pv_eval.specs.Constants.{is_high_pair}
 
 -- the memory model: any side, where the run isn't settled, or no pair was made; none, where the list has ended; else that of the list
@@ -24,7 +24,7 @@ side_for (Some sides) n m = side_by (nat_lt n m) (slice_get sides n)
 
 -- the memory model: the value of an operation, by the side that its pair keeps
 abbrev pub answered_by : Side → Worth → (line : ℕ) → World → Told → State → Res Worth
-answered_by Free v line w t s = Gives v (noted w t s)
+answered_by Free v line w t s = Gives v (after_telling w t s)
 answered_by Ended v line w t s = by_side None v line w t s
 answered_by (Keeps high) v line w t s = by_side (Some high) v line w t s
 

@@ -3,8 +3,8 @@ use Rattle.std.specs.Prelude.{◌≡◌, ℕ, Bool, ◌<◌, ◌≤◌, ◌^◌,
 use Rattle.pv_types.specs.Ty.{Ty, PointerTo}
 use Rattle.pv_types.specs.Known.{Known, tree, env}
 use Rattle.pv_types.specs.Layouts.{layout_in, is_complete_in}
-use Rattle.pv_types.specs.Sorts.{bare}
-use Rattle.pv_typed.specs.Tables.{Stored, whole}
+use Rattle.pv_types.specs.Sorts.{bare_type}
+use Rattle.pv_typed.specs.Tables.{Stored, whole_unit}
 use Rattle.pv_world.specs.declared.got.How.{How}
 use Rattle.pv_eval.specs.declared.types.Complete.{Complete}
 use Rattle.pv_eval.specs.States.{Setting}
@@ -13,7 +13,7 @@ use Rattle.pv_eval.specs.Conversions.{how_by}
 
 -- what operations look at in the setting of a run of the unit: neither the bound nor the sides
 abbrev pub setting_of : Stored → Setting
-setting_of u = record { unit = whole u; types = u.known; bound = 0; sides = None; zap = true }
+setting_of u = record { unit = whole_unit u; types = u.known; bound = 0; sides = None; zap = true }
 
 -- 6.5.3.4p2: the size of a type, by the table of types
 abbrev pub size_in : Known → Ty → ℕ
@@ -25,7 +25,7 @@ align_in m t = alignment_by (env m) t
 
 -- 6.5p6: its number, qualifiers aside
 abbrev pub number_in : Known → Ty → ℕ
-number_in m t = number_of m (bare t)
+number_in m t = number_of m (bare_type t)
 
 -- 6.5.6p8: the size of what it points to
 abbrev pub element_in : Known → Ty → ℕ

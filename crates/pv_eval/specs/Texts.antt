@@ -11,7 +11,7 @@ use Rattle.pv_world.specs.Coming.{Did, worth_of}
 use Rattle.pv_eval.specs.declared.failure.Failure.{Failure}
 use Rattle.pv_eval.specs.declared.marked.Marked.{Marked}
 use Rattle.pv_eval.specs.States.{Setting, State, Res, Gives, Stops}
-use Rattle.pv_eval.specs.Acting.{acted, pair_count}
+use Rattle.pv_eval.specs.Acting.{after_doing, pair_count}
 use Rattle.pv_eval.specs.Moments.{Moment, Follows, Came, state_of}
 
 -- 7.21.6.3: what is printed
@@ -27,13 +27,13 @@ silent (Fails y p w t) = Fails y p w (telling t.events)
 silent (Breaks y b w t) = Breaks y b w (telling t.events)
 
 -- 7.21.6.3: a text behind what a state has printed, and behind what a piece of the run has
-abbrev pub written : List ℕ → State → State
-written text s = record s { output = s.output ++ text }
+abbrev pub behind_text : List ℕ → State → State
+behind_text text s = record s { output = s.output ++ text }
 
 -- 7.21.6.3: the same of a piece of the run
 abbrev pub with_text : List ℕ → Res Worth → Res Worth
-with_text text (Gives v s) = Gives v (written text s)
-with_text text (Stops y s) = Stops y (written text s)
+with_text text (Gives v s) = Gives v (behind_text text s)
+with_text text (Stops y s) = Stops y (behind_text text s)
 
 -- after want of memory nothing is said of what is printed (7.21.6.3)
 abbrev pub UnlessNoMemory : {A : Type 0} → Result A WorldFailure → Type 0 → Type 0
@@ -50,4 +50,4 @@ pub record Wrote (op : World → Done) (r : Result Got WorldFailure) (old new : 
 abbrev pub Closed : (line pairs : ℕ) → (World → (World → Done) → Type 0) → (old : Moment) → Result Got Failure → (new : Moment) → Type 0
 Closed line pairs P old r new =
     (b : Setting) (w : World) (op : World → Done) (out : List ℕ) (es : List Marked) → b.sides ≡ old.sides → pairs ≡ pair_count w → Follows old (length out) → P w op
-    → Came (acted b line (op w) (state_of (record old { world = w }) out es)) r (state_of new out es)
+    → Came (after_doing b line (op w) (state_of (record old { world = w }) out es)) r (state_of new out es)

@@ -5,7 +5,7 @@ use Rattle.pv_num.specs.declared.kinds.IntKind.TheVariants as kind
 use Rattle.pv_types.specs.Ty.{Ty, VoidTy, IntTy, PointerTo, ArrayOf, FunctionTy, ConstOf}
 use Rattle.pv_types.specs.Layouts.{Entry, layout_in, is_complete_in}
 use Rattle.pv_types.specs.Known.{Known, trees}
-use Rattle.pv_types.specs.Sorts.{bare, pointed_by, kind_of as kind_if, is_void}
+use Rattle.pv_types.specs.Sorts.{bare_type, pointed_by, kind_of as kind_if, is_void}
 use Rattle.pv_types.specs.SameTypes.{same_type}
 use Rattle.pv_typed.specs.TypedUnits.{layouts}
 use Rattle.pv_world.specs.declared.got.Shape.{Shape}
@@ -41,7 +41,7 @@ align_of b t = (layout_in (layouts b.unit) t).align
 
 -- 6.3.2.1p1: the lvalues of a type
 abbrev pub lvalue : Setting → Ty → Lvalue
-lvalue b t = record { t = bare t; number = number_of b.types (bare t); size = size_of b t; align = align_of b t; shape = shape_of t }
+lvalue b t = record { t = bare_type t; number = number_of b.types (bare_type t); size = size_of b t; align = align_of b t; shape = shape_of t }
 
 -- 6.2.5p17: the kind of an integer type
 abbrev pub kind_of : Ty → IntKind

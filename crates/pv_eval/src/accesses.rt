@@ -3,19 +3,19 @@ ghost use Rattle.std.specs.Prelude.{◌≡◌, ◌≤◌, ◌<◌, ◌++◌, Lis
 ghost use Rattle.pv_inst.specs.declared.values.Tried.{Tried};
 ghost use Rattle.pv_inst.specs.declared.values.Miss.{Miss};
 ghost use Rattle.pv_inst.specs.Table.{IsMadeIn};
-ghost use Rattle.pv_inst.specs.Use.{settled};
+ghost use Rattle.pv_inst.specs.Use.{after_use};
 ghost use Rattle.pv_object.specs.Reaching.{IsReach};
 ghost use Rattle.pv_types.specs.Known.{tree};
 ghost use Rattle.pv_typed.specs.Known.{AreKnown};
-ghost use Rattle.pv_seq.specs.Sequencing.{conflicts, noted, rivals};
+ghost use Rattle.pv_seq.specs.Sequencing.{conflicts, with_access, rivals};
 ghost use Rattle.pv_seq.specs.SequencingParts.{access_of};
 ghost use Rattle.pv_seq.specs.Rivals.{top, below};
 ghost use Rattle.pv_world.specs.Worlds.{World as WorldView};
-ghost use Rattle.pv_world.specs.Worths.{undefined};
+ghost use Rattle.pv_world.specs.Worths.{undefined_behaviour};
 ghost use Rattle.pv_world.specs.Telling.{telling, blame_of, fault_of, verdict_of};
 ghost use Rattle.pv_world.specs.Accesses.{is_inexact};
 ghost use Rattle.pv_world.specs.Preconditions.{IsStored};
-ghost use Rattle.pv_world.specs.Coming.{Came, Did, Faulted, seen, worth_of, wrong_for, IsMadeWorth};
+ghost use Rattle.pv_world.specs.Coming.{Came, Did, Faulted, coming_of, worth_of, wrong_for, IsMadeWorth};
 ghost use Rattle.pv_watch.specs.declared.event.What.{What as Told};
 ghost use Rattle.pv_eval.specs.TypeForms.{lvalue, shape_of};
 ghost use Rattle.pv_eval.specs.Sizes.{setting_of, IsComplete};
@@ -34,7 +34,7 @@ use std::alloc::Global;
 
 /// The run ends by this paragraph, for this reason, and blames a pointer.
 fn blamed(told: &mut Vec<What>, clause: Clause, reason: Reason, blame: Blame) -> WorldFailure
-    ensures { Faulted result (undefined clause reason) told.new.items (told.old.items ++ fault_of (Some blame) (verdict_of (undefined clause reason))) }
+    ensures { Faulted result (undefined_behaviour clause reason) told.new.items (told.old.items ++ fault_of (Some blame) (verdict_of (undefined_behaviour clause reason))) }
 {
     fail(
         told,
@@ -49,7 +49,7 @@ fn blamed(told: &mut Vec<What>, clause: Clause, reason: Reason, blame: Blame) ->
 fn note(journal: &mut Journal, at: u64, n: u64, write: bool) -> Result<bool, WorldFailure>
     requires { 1 ≤ length journal.old }
     ensures rivals { IfOk result (λ t. t ≡ conflicts (access_of at n write) (rivals (top journal.old))) }
-    ensures noted { IfOk result (λ t. t ≡ false → journal.new ≡ noted (access_of at n write) (top journal.old) ∷ below journal.old) }
+    ensures noted { IfOk result (λ t. t ≡ false → journal.new ≡ with_access (access_of at n write) (top journal.old) ∷ below journal.old) }
     ensures memory { IfErr result (λ e. e ≡ WorldFailure.NoMemory) }
 {
     match journal.access(at, n, write) {
@@ -74,9 +74,9 @@ fn read_permitted(
     requires made { IsMadeIn world.old.memory.table p.prov }
     requires reached { IsReach world.old.memory.table at.now l.size }
     requires some { 1 ≤ length journal.old }
-    ensures did { (w0 : WorldView) (x : Result Tried Miss) (es us : List Told) → world.old.memory.table ≡ settled w0.memory.table p.prov x → blame ≡ blame_of w0.memory p.prov → told.old.items ≡ es ++ us
-        → Came worth_of result world.new told.new.items (seen es w0 (reads_permitted (lvalue (setting_of unit.now) (tree unit.now.known l.t.0)) p (rivals (top journal.old)) at.now world.old (telling us))) }
-    ensures noted { OnOk result (journal.new ≡ noted (access_of p.address l.size false) (top journal.old) ∷ below journal.old) }
+    ensures did { (w0 : WorldView) (x : Result Tried Miss) (es us : List Told) → world.old.memory.table ≡ after_use w0.memory.table p.prov x → blame ≡ blame_of w0.memory p.prov → told.old.items ≡ es ++ us
+        → Came worth_of result world.new told.new.items (coming_of es w0 (reads_permitted (lvalue (setting_of unit.now) (tree unit.now.known l.t.0)) p (rivals (top journal.old)) at.now world.old (telling us))) }
+    ensures noted { OnOk result (journal.new ≡ with_access (access_of p.address l.size false) (top journal.old) ∷ below journal.old) }
 {
     match note(journal, p.address, l.size, false) {
         Ok(true) => Err(blamed(told, Clause::Sequencing, Reason::Unsequenced, blame)),
@@ -102,9 +102,9 @@ fn read_reached(
     requires made { IsMadeIn world.old.memory.table p.prov }
     requires reached { IsReach world.old.memory.table at.now l.size }
     requires some { 1 ≤ length journal.old }
-    ensures did { (w0 : WorldView) (x : Result Tried Miss) (es us : List Told) → world.old.memory.table ≡ settled w0.memory.table p.prov x → blame ≡ blame_of w0.memory p.prov → told.old.items ≡ es ++ us
-        → Came worth_of result world.new told.new.items (seen es w0 (reads_at (setting_of unit.now) (lvalue (setting_of unit.now) (tree unit.now.known l.t.0)) p (rivals (top journal.old)) at.now world.old (telling us))) }
-    ensures noted { OnOk result (journal.new ≡ noted (access_of p.address l.size false) (top journal.old) ∷ below journal.old) }
+    ensures did { (w0 : WorldView) (x : Result Tried Miss) (es us : List Told) → world.old.memory.table ≡ after_use w0.memory.table p.prov x → blame ≡ blame_of w0.memory p.prov → told.old.items ≡ es ++ us
+        → Came worth_of result world.new told.new.items (coming_of es w0 (reads_at (setting_of unit.now) (lvalue (setting_of unit.now) (tree unit.now.known l.t.0)) p (rivals (top journal.old)) at.now world.old (telling us))) }
+    ensures noted { OnOk result (journal.new ≡ with_access (access_of p.address l.size false) (top journal.old) ∷ below journal.old) }
 {
     match permits(alloc, unit, world, at, l, false) {
         Ok(true) => read_permitted(unit, l, p, at, blame, journal, world, told),
@@ -128,7 +128,7 @@ pub(crate) fn read_from(
     requires made { IsMadeIn world.old.memory.table p.prov }
     requires some { 1 ≤ length journal.old }
     ensures did { Did worth_of (reads_from (setting_of unit.now) (lvalue (setting_of unit.now) (tree unit.now.known l.t.0)) p (rivals (top journal.old))) result world.old world.new told.old.items told.new.items }
-    ensures noted { OnOk result (journal.new ≡ noted (access_of p.address l.size false) (top journal.old) ∷ below journal.old) }
+    ensures noted { OnOk result (journal.new ≡ with_access (access_of p.address l.size false) (top journal.old) ∷ below journal.old) }
 {
     let align = align_of(unit.types(), l.t);
     let blame = world.blame(p);
@@ -171,7 +171,7 @@ fn write_alone(
     requires value_made { IsMadeWorth world.old.memory.table (worth_of v) }
     requires reached { IsReach world.old.memory.table at.now l.size }
     ensures { (w0 : WorldView) (es us : List Told) → blame ≡ blame_of w0.memory p.prov → told.old.items ≡ es ++ us → Came worth_of result world.new told.new.items
-        (seen es w0 (writes_alone (lvalue (setting_of unit.now) (tree unit.now.known l.t.0)) p (worth_of v) from at.now world.old (telling us))) }
+        (coming_of es w0 (writes_alone (lvalue (setting_of unit.now) (tree unit.now.known l.t.0)) p (worth_of v) from at.now world.old (telling us))) }
 {
     if inexact(from, p.address, l.size) {
         Err(blamed(told, Clause::OverlappingAssignment, Reason::Overlap, blame))
@@ -201,8 +201,8 @@ fn write_permitted(
     requires reached { IsReach world.old.memory.table at.now l.size }
     requires some { 1 ≤ length journal.old }
     ensures did { (w0 : WorldView) (es us : List Told) → blame ≡ blame_of w0.memory p.prov → told.old.items ≡ es ++ us → Came worth_of result world.new told.new.items
-        (seen es w0 (writes_permitted (lvalue (setting_of unit.now) (tree unit.now.known l.t.0)) p (worth_of v) from (rivals (top journal.old)) at.now world.old (telling us))) }
-    ensures noted { OnOk result (journal.new ≡ noted (access_of p.address l.size true) (top journal.old) ∷ below journal.old) }
+        (coming_of es w0 (writes_permitted (lvalue (setting_of unit.now) (tree unit.now.known l.t.0)) p (worth_of v) from (rivals (top journal.old)) at.now world.old (telling us))) }
+    ensures noted { OnOk result (journal.new ≡ with_access (access_of p.address l.size true) (top journal.old) ∷ below journal.old) }
 {
     match note(journal, p.address, l.size, true) {
         Ok(true) => Err(blamed(told, Clause::Sequencing, Reason::Unsequenced, blame)),
@@ -232,8 +232,8 @@ fn write_reached(
     requires reached { IsReach world.old.memory.table at.now l.size }
     requires some { 1 ≤ length journal.old }
     ensures did { (w0 : WorldView) (es us : List Told) → blame ≡ blame_of w0.memory p.prov → told.old.items ≡ es ++ us → Came worth_of result world.new told.new.items
-        (seen es w0 (writes_at (setting_of unit.now) (lvalue (setting_of unit.now) (tree unit.now.known l.t.0)) p (worth_of v) from (rivals (top journal.old)) at.now world.old (telling us))) }
-    ensures noted { OnOk result (journal.new ≡ noted (access_of p.address l.size true) (top journal.old) ∷ below journal.old) }
+        (coming_of es w0 (writes_at (setting_of unit.now) (lvalue (setting_of unit.now) (tree unit.now.known l.t.0)) p (worth_of v) from (rivals (top journal.old)) at.now world.old (telling us))) }
+    ensures noted { OnOk result (journal.new ≡ with_access (access_of p.address l.size true) (top journal.old) ∷ below journal.old) }
 {
     match permits(alloc, unit, world, at, l, true) {
         Ok(true) => write_permitted(unit, l, p, v, from, at, blame, journal, world, told),
@@ -261,7 +261,7 @@ pub(crate) fn write_to(
     requires made { IsMadeIn world.old.memory.table p.prov }
     requires some { 1 ≤ length journal.old }
     ensures did { Did worth_of (λ w. writes_to (setting_of unit.now) (lvalue (setting_of unit.now) (tree unit.now.known l.t.0)) p from (rivals (top journal.old)) w (worth_of v)) result world.old world.new told.old.items told.new.items }
-    ensures noted { OnOk result (journal.new ≡ noted (access_of p.address l.size true) (top journal.old) ∷ below journal.old) }
+    ensures noted { OnOk result (journal.new ≡ with_access (access_of p.address l.size true) (top journal.old) ∷ below journal.old) }
 {
     let align = align_of(unit.types(), l.t);
     let blame = world.blame(p);

@@ -11,13 +11,13 @@ ghost use Rattle.pv_typed.specs.NodeTrees.{list_at, IsExpression};
 ghost use Rattle.pv_object.specs.Answers.{IsMadeValue};
 ghost use Rattle.pv_libc.specs.Steps.{with_notes};
 ghost use Rattle.pv_libc.specs.Answers.{OrNoMemory, behind};
-ghost use Rattle.pv_libc.specs.Calls.{called, output};
+ghost use Rattle.pv_libc.specs.Calls.{reply_to_call, output};
 ghost use Rattle.pv_libc.specs.Makings.{AreLive, IsLiveIfMade, UnlessNoMemory as UnlessSpent};
 ghost use Rattle.pv_world.specs.Worlds.{World as WorldView, Worth};
 ghost use Rattle.pv_world.specs.Worths.{value_of};
 ghost use Rattle.pv_world.specs.Coming.{Did, worth_of};
 ghost use Rattle.pv_eval.specs.States.{Setting, Res};
-ghost use Rattle.pv_eval.specs.Acting.{acted};
+ghost use Rattle.pv_eval.specs.Acting.{after_doing};
 ghost use Rattle.pv_eval.specs.Arguments.{argument_shape, shape_to};
 ghost use Rattle.pv_eval.specs.Frames.{asked_with};
 ghost use Rattle.pv_eval.specs.Library.{noted_as, blame_in, asks};
@@ -196,7 +196,7 @@ fn call_in(
     requires named { 1 < length names.now }
     requires heap { text_of names.now 1 ≡ codes "@heap" }
     requires made { All (λ a. IsMadeValue world.old.memory.table a.value) args.now }
-    ensures answer { OrNoMemory result (with_notes world.new.memory notes.new.items) (behind notes.old.items (called f args.now world.old.memory)) }
+    ensures answer { OrNoMemory result (with_notes world.new.memory notes.new.items) (behind notes.old.items (reply_to_call f args.now world.old.memory)) }
     ensures text { OnOk result (text.new.items ≡ text.old.items ++ output f args.now world.old.memory) }
     ensures kept { OnErr result (text.new.items ≡ text.old.items) }
     ensures world { world.new ≡ record world.old { memory = world.new.memory } }

@@ -8,7 +8,7 @@ ghost use Rattle.pv_typed.specs.Known.{AreKnown};
 ghost use Rattle.pv_typed.specs.Children.{HasOperands};
 ghost use Rattle.pv_typed.specs.TypedTree.{form_of};
 ghost use Rattle.pv_typed.specs.TypedUnits.{object_at};
-ghost use Rattle.pv_typed.specs.Tables.{whole};
+ghost use Rattle.pv_typed.specs.Tables.{whole_unit};
 ghost use Rattle.pv_typed.specs.NodeTrees.{expression_at, IsExpression};
 ghost use Rattle.pv_eval.specs.Plainly.{form_by};
 ghost use Rattle.pv_eval.specs.Designated.{IsDesignated};
@@ -90,7 +90,7 @@ pub(crate) enum Code {
 /// Whether an object's declared type is the one of this number.
 fn has_type(unit: &TypedUnit, o: u32, t: TypeId) -> bool
     requires { o < length unit.now.objects }
-    ensures { IsTrue result → (object_at (whole unit.now) o).t ≡ tree unit.now.known t.0 }
+    ensures { IsTrue result → (object_at (whole_unit unit.now) o).t ≡ tree unit.now.known t.0 }
 {
     unit.object(o).t.0 == t.0
 }
@@ -99,7 +99,7 @@ fn has_type(unit: &TypedUnit, o: u32, t: TypeId) -> bool
 fn named_object(unit: &TypedUnit, a: NodeId, t: TypeId) -> Option<(u32, bool)>
     requires { IsExpression unit.now a }
     ensures object { IfSome result (λ x. IsObjectOf unit.now a x.0 x.1) }
-    ensures own { IfSome result (λ x. (object_at (whole unit.now) x.0).t ≡ tree unit.now.known t.0) }
+    ensures own { IfSome result (λ x. (object_at (whole_unit unit.now) x.0).t ≡ tree unit.now.known t.0) }
 {
     match unit.node(a) {
         Typed::Object(o) => {
@@ -224,7 +224,7 @@ fn sum_code(unit: &TypedUnit, n: NodeId, sign: Sign, a: NodeId, d: NodeId) -> Op
 /// The object that a node of this type designates, with that as its declared type.
 fn own_object(unit: &TypedUnit, a: NodeId, t: TypeId) -> Option<u32>
     requires { IsExpression unit.now a }
-    ensures { IfSome result (λ o. (object_at (whole unit.now) o).t ≡ tree unit.now.known t.0) }
+    ensures { IfSome result (λ o. (object_at (whole_unit unit.now) o).t ≡ tree unit.now.known t.0) }
 {
     let Some((o, _)) = named_object(unit, a, t) else {
         return None;

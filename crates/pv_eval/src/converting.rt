@@ -1,7 +1,7 @@
 // Implicit conversions of operands (C17 6.3), made by the node above.
 ghost use Rattle.pv_typed.specs.NodeTrees.{expression_at, IsExpression};
 ghost use Rattle.pv_eval.specs.States.{then_do};
-ghost use Rattle.pv_eval.specs.Steps.{handed, converted};
+ghost use Rattle.pv_eval.specs.Steps.{accepted_value, with_conversion};
 ghost use Rattle.pv_eval.specs.Operations.{Accepts, act};
 ghost use Rattle.pv_world.specs.Coming.{worth_of};
 ghost use Rattle.pv_eval.specs.Runnable.{IsRunnable};
@@ -23,7 +23,7 @@ pub(crate) fn hand(
 ) -> Result<Got, Failure>
     requires runnable { IsRunnable unit.now }
     requires there { IsExpression unit.now child }
-    ensures came { Always unit.now moment.old (λ b out es. Came (handed b (expression_at unit.now child) (worth_of v) (state_of moment.old out es)) result (state_of moment.new out es)) }
+    ensures came { Always unit.now moment.old (λ b out es. Came (accepted_value b (expression_at unit.now child) (worth_of v) (state_of moment.old out es)) result (state_of moment.new out es)) }
     ensures stays { Stays moment.old moment.new }
 {
     hand_on(unit, child, unit.line_of(child), v, moment)
@@ -40,7 +40,7 @@ pub(crate) fn hand_on(
 ) -> Result<Got, Failure>
     requires runnable { IsRunnable unit.now }
     requires there { IsExpression unit.now child }
-    ensures came { Always unit.now moment.old (λ b out es. Came (then_do (converted b (expression_at unit.now child) (worth_of v) (state_of moment.old out es)) (λ v s. act b line (Accepts v) s)) result (state_of moment.new out es)) }
+    ensures came { Always unit.now moment.old (λ b out es. Came (then_do (with_conversion b (expression_at unit.now child) (worth_of v) (state_of moment.old out es)) (λ v s. act b line (Accepts v) s)) result (state_of moment.new out es)) }
     ensures stays { Stays moment.old moment.new }
 {
     match convert(unit, child, v, moment) {
@@ -78,7 +78,7 @@ pub(crate) fn convert(
 ) -> Result<Got, Failure>
     requires runnable { IsRunnable unit.now }
     requires there { IsExpression unit.now child }
-    ensures came { Always unit.now moment.old (λ b out es. Came (converted b (expression_at unit.now child) (worth_of v) (state_of moment.old out es)) result (state_of moment.new out es)) }
+    ensures came { Always unit.now moment.old (λ b out es. Came (with_conversion b (expression_at unit.now child) (worth_of v) (state_of moment.old out es)) result (state_of moment.new out es)) }
     ensures stays { Stays moment.old moment.new }
 {
     match unit.node(child) {

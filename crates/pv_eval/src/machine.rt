@@ -15,7 +15,7 @@ ghost use Rattle.pv_eval.specs.States.{Gives};
 ghost use Rattle.pv_eval.specs.TypeForms.{lvalue, size_of};
 ghost use Rattle.pv_eval.specs.Operations.{Tests, BeginsBody, EndsBody, Makes, MakesLiteral, MakesFunction, Ends, Fills, Puts, PutsText, act};
 ghost use Rattle.pv_eval.specs.Moments.{sides_of, state_of, Always, Came, Tested, Made, Needed, IsMemory, Stays};
-ghost use Rattle.pv_eval.specs.Machines.{first_machine, ended, is_due, is_going, is_ended, is_asked, asked_function, asked_arguments, asked_line, due_turns, after_first};
+ghost use Rattle.pv_eval.specs.Machines.{first_machine, ended_value, is_due, is_going, is_ended, is_asked, asked_function, asked_arguments, asked_line, due_turns, after_first};
 ghost use Rattle.pv_eval.specs.MachineSteps.{IsBegun, IsTaken, IsAnswered, IsOpen, Fit, WentTo, KeepsSetting};
 ghost use Rattle.pv_eval.specs.Pieces.{handed_at, needed_of};
 ghost use Rattle.pv_eval.specs.Progress.{StepsMachine, MadeAnywhere};
@@ -374,7 +374,7 @@ impl Machine {
     #[inline(always)]
     pub fn value(&mut self) -> Got
         requires { is_ended self.old.started ≡ true }
-        ensures value { worth_of result ≡ ended self.old.started }
+        ensures value { worth_of result ≡ ended_value self.old.started }
         ensures started { self.new.started ≡ after_first self.old.started }
         ensures moment { self.new.moment ≡ self.old.moment }
     {
@@ -389,7 +389,7 @@ impl Machine {
     pub fn decide(&mut self, unit: &TypedUnit, line: u32) -> Result<bool, Failure>
         requires runnable { IsRunnable unit.now }
         requires ended { is_ended self.old.started ≡ true }
-        ensures tested { Always unit.now self.old.moment (λ b out es. Tested (act b line (Tests (ended self.old.started)) (state_of self.old.moment out es)) result (state_of self.new.moment out es)) }
+        ensures tested { Always unit.now self.old.moment (λ b out es. Tested (act b line (Tests (ended_value self.old.started)) (state_of self.old.moment out es)) result (state_of self.new.moment out es)) }
         ensures started { self.new.started ≡ after_first self.old.started }
         ensures stays { Stays self.old.moment self.new.moment }
     {
@@ -403,7 +403,7 @@ impl Machine {
         requires runnable { IsRunnable unit.now }
         requires node { IsExpression unit.now n }
         requires ended { is_ended self.old.started ≡ true }
-        ensures handed { Always unit.now self.old.moment (λ b out es. Came (handed_at b line (expression_at unit.now n) (ended self.old.started) (state_of self.old.moment out es)) result (state_of self.new.moment out es)) }
+        ensures handed { Always unit.now self.old.moment (λ b out es. Came (handed_at b line (expression_at unit.now n) (ended_value self.old.started) (state_of self.old.moment out es)) result (state_of self.new.moment out es)) }
         ensures started { self.new.started ≡ after_first self.old.started }
         ensures stays { Stays self.old.moment self.new.moment }
     {
@@ -416,7 +416,7 @@ impl Machine {
         requires runnable { IsRunnable unit.now }
         requires node { IsExpression unit.now n }
         requires ended { is_ended self.old.started ≡ true }
-        ensures needed { Always unit.now self.old.moment (λ b out es. Needed (needed_of b (expression_at unit.now n) (ended self.old.started) (state_of self.old.moment out es)) result (state_of self.new.moment out es)) }
+        ensures needed { Always unit.now self.old.moment (λ b out es. Needed (needed_of b (expression_at unit.now n) (ended_value self.old.started) (state_of self.old.moment out es)) result (state_of self.new.moment out es)) }
         ensures started { self.new.started ≡ after_first self.old.started }
         ensures stays { Stays self.old.moment self.new.moment }
     {

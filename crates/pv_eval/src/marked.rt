@@ -1,6 +1,6 @@
 // Events that are told later.
 ghost use Rattle.std.specs.Prelude.{◌≡◌, ◌++◌, OnOk};
-ghost use Rattle.pv_eval.specs.Acting.{stamped, is_use_of, without_use};
+ghost use Rattle.pv_eval.specs.Acting.{marked_events, is_use_of, without_use};
 
 use pv_prov::NoMemory;
 use pv_watch::{Event, What};
@@ -20,7 +20,7 @@ pub(crate) fn stamp(
     mark: u64,
     told: &[What],
 ) -> Result<(), NoMemory>
-    ensures { OnOk result (waiting.new.items ≡ waiting.old.items ++ stamped turn mark told.now) }
+    ensures { OnOk result (waiting.new.items ≡ waiting.old.items ++ marked_events turn mark told.now) }
 {
     for i in 0..told.len() {
         let event = Event {
@@ -52,7 +52,7 @@ pub(crate) fn stamp_others(
     pair: u64,
     told: &[What],
 ) -> Result<(), NoMemory>
-    ensures { OnOk result (waiting.new.items ≡ waiting.old.items ++ stamped turn mark (without_use pair told.now)) }
+    ensures { OnOk result (waiting.new.items ≡ waiting.old.items ++ marked_events turn mark (without_use pair told.now)) }
 {
     for i in 0..told.len() {
         let what = told[i];

@@ -4,7 +4,7 @@ ghost use Rattle.pv_world.specs.Worths.{truth_int, int};
 ghost use Rattle.pv_world.specs.Coming.{Did, worth_of, no_worth};
 ghost use Rattle.pv_eval.specs.Acting.{without_use};
 ghost use Rattle.pv_eval.specs.Closings.{ClosedAs, ClosedStill, SettledAs};
-ghost use Rattle.pv_eval.specs.Moments.{marked, Came, Tested, Needed, Called, by_number, Made, IsMemory};
+ghost use Rattle.pv_eval.specs.Moments.{with_waiting, Came, Tested, Needed, Called, by_number, Made, IsMemory};
 
 use crate::failure::Failure;
 use crate::marked::{Marked, stamp, stamp_others};
@@ -56,7 +56,7 @@ impl Moment {
     /// What was told of an operation is marked, to be told later.
     #[inline(always)]
     fn mark(&mut self, told: &[What]) -> Result<(), Failure>
-        ensures marked { OnOk result (self.new ≡ marked self.old self.old.world told.now) }
+        ensures marked { OnOk result (self.new ≡ with_waiting self.old self.old.world told.now) }
         ensures kept { self.new ≡ record self.old { waiting = self.new.waiting } }
         ensures memory { IfErr result (λ e. e ≡ Failure.NoMemory) }
     {
@@ -68,7 +68,7 @@ impl Moment {
 
     /// The same of all that was told but the uses of a pair.
     fn mark_others(&mut self, pair: u64, told: &[What]) -> Result<(), Failure>
-        ensures marked { OnOk result (self.new ≡ marked self.old self.old.world (without_use pair told.now)) }
+        ensures marked { OnOk result (self.new ≡ with_waiting self.old self.old.world (without_use pair told.now)) }
         ensures kept { self.new ≡ record self.old { waiting = self.new.waiting } }
         ensures memory { IfErr result (λ e. e ≡ Failure.NoMemory) }
     {

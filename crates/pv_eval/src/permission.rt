@@ -5,10 +5,10 @@ ghost use Rattle.pv_types.specs.Known.{tree, env};
 ghost use Rattle.pv_types.specs.Formed.{IsBuilt};
 ghost use Rattle.pv_types.specs.Layouts.{is_complete_in, layout_in};
 ghost use Rattle.pv_types.specs.Ty.{Ty};
-ghost use Rattle.pv_types.specs.Sorts.{bare, is_character, is_scalar_in};
+ghost use Rattle.pv_types.specs.Sorts.{bare_type, is_character, is_scalar_in};
 ghost use Rattle.pv_effect.specs.EffectiveType.{permits_marks};
 ghost use Rattle.pv_inst.specs.declared.values.Kind.TheVariants.{Heap};
-ghost use Rattle.pv_shadow.specs.Bytes.{read};
+ghost use Rattle.pv_shadow.specs.Bytes.{bytes_from};
 ghost use Rattle.pv_object.specs.Reaching.{IsReach};
 ghost use Rattle.pv_typed.specs.Known.{AreKnown};
 ghost use Rattle.pv_types.specs.declared.terms.TypeId.{TypeId as TypeNumber};
@@ -68,7 +68,7 @@ fn type_by(unit: &TypedUnit, object: Option<u32>) -> Option<Complete>
 #[tactic(auto, using(crate::proofs::Allowing::whole_integer, crate::proofs::Allowing::whole_pointer, crate::proofs::Allowing::integer_bare, crate::proofs::Allowing::pointer_bare))]
 fn is_whole_scalar(unit: &TypedUnit, object: Option<u32>, offset: u64, want: TypeId) -> bool
     requires { AreKnown unit.now }
-    ensures unqualified { IsTrue result → bare (tree unit.now.known want.0) ≡ tree unit.now.known want.0 }
+    ensures unqualified { IsTrue result → bare_type (tree unit.now.known want.0) ≡ tree unit.now.known want.0 }
     ensures permitted { IsTrue result → permits_object (setting_of unit.now) (type_by (setting_of unit.now) object) offset (tree unit.now.known want.0) ≡ true }
 {
     let Some(o) = object else {
@@ -141,7 +141,7 @@ fn permits_object(unit: &TypedUnit, object: Option<u32>, offset: u64, want: Type
 fn permits_own(unit: &TypedUnit, object: Option<u32>, offset: u64, l: Complete) -> bool
     requires known { AreKnown unit.now }
     requires complete { IsComplete unit.now.known l }
-    ensures { result ≡ permits_object (setting_of unit.now) (type_by (setting_of unit.now) object) offset (bare (tree unit.now.known l.t.0)) }
+    ensures { result ≡ permits_object (setting_of unit.now) (type_by (setting_of unit.now) object) offset (bare_type (tree unit.now.known l.t.0)) }
 {
     if is_whole_scalar(unit, object, offset, l.t) {
         return true;
@@ -169,7 +169,7 @@ fn is_own_store(unit: &TypedUnit, world: &World, at: &Reach, want: TypeId, size:
     requires want { want.0 < length unit.now.known.terms }
     requires size { size ≡ size_in unit.now.known (tree unit.now.known want.0) }
     requires reached { IsReach world.now.memory.table at.now size }
-    ensures { IsTrue result → permits_marks unit.now.known (layout_in (env unit.now.known) (tree unit.now.known want.0)).parts (marks_of (read world.now.memory.bytes at.now.address size)) ≡ true }
+    ensures { IsTrue result → permits_marks unit.now.known (layout_in (env unit.now.known) (tree unit.now.known want.0)).parts (marks_of (bytes_from world.now.memory.bytes at.now.address size)) ≡ true }
 {
     if !is_bare_scalar(unit, want) {
         return false;
@@ -194,7 +194,7 @@ fn permits_heap(
     requires small { size_in unit.now.known (tree unit.now.known want.0) ≤ 2 ^ 32 }
     requires size { size ≡ size_in unit.now.known (tree unit.now.known want.0) }
     requires reached { IsReach world.now.memory.table at.now size }
-    ensures { IfOk result (λ p. p ≡ permits_marks unit.now.known (layout_in (env unit.now.known) (tree unit.now.known want.0)).parts (marks_of (read world.now.memory.bytes at.now.address size))) }
+    ensures { IfOk result (λ p. p ≡ permits_marks unit.now.known (layout_in (env unit.now.known) (tree unit.now.known want.0)).parts (marks_of (bytes_from world.now.memory.bytes at.now.address size))) }
 {
     if is_own_store(unit, world, at, want, size) {
         return Ok(true);

@@ -4,7 +4,7 @@ ghost use Rattle.pv_fault.specs.declared.faults.Clause.{Clause};
 ghost use Rattle.pv_tree.specs.declared.nodes.NodeId.{NodeId as Number};
 ghost use Rattle.pv_types.specs.Ty.{Ty};
 ghost use Rattle.pv_types.specs.Known.{tree};
-ghost use Rattle.pv_object.specs.OperationParts.{moved};
+ghost use Rattle.pv_object.specs.OperationParts.{address_on};
 ghost use Rattle.pv_typed.specs.declared.nodes.Typed.{Typed as Row};
 ghost use Rattle.pv_typed.specs.TypedTree.{type_of};
 ghost use Rattle.pv_typed.specs.NodeTrees.{expression_at, IsExpression};
@@ -41,7 +41,7 @@ pub(crate) fn object(world: &World, o: u32, lasting: bool) -> Option<Found>
 
 /// An address so many bytes on.
 fn sum(address: u64, by: i64) -> Option<u64>
-    ensures { IfSome result (λ to. moved address by ≡ to) }
+    ensures { IfSome result (λ to. address_on address by ≡ to) }
 {
     let to = i128::from(address) + i128::from(by);
     if 0 <= to && to <= 0x7fff_ffff_ffff_ffff {

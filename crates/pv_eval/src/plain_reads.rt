@@ -1,12 +1,12 @@
 // Integers and pointers that plain expressions read (C17 6.3.2.1p2).
 ghost use Rattle.std.specs.Prelude.{◌≡◌, ◌≤◌, true, ◌&&◌, IfSome, is_some, [], Ok, pos};
-ghost use Rattle.pv_num.specs.Kinds.{greatest, convert_of};
+ghost use Rattle.pv_num.specs.Kinds.{greatest_member, convert_of};
 ghost use Rattle.pv_prov.specs.declared.names.Prov.TheVariants.{Inst};
 ghost use Rattle.pv_inst.specs.declared.values.Test.TheVariants.{Live};
 ghost use Rattle.pv_inst.specs.Use.{use_answer};
 ghost use Rattle.pv_types.specs.Known.{tree, env};
 ghost use Rattle.pv_types.specs.Layouts.{layout_in};
-ghost use Rattle.pv_shadow.specs.Bytes.{read};
+ghost use Rattle.pv_shadow.specs.Bytes.{bytes_from};
 ghost use Rattle.pv_object.specs.Reaching.{IsReach};
 ghost use Rattle.pv_object.specs.Access.{readonly_stop};
 ghost use Rattle.pv_object.specs.Loading.{is_trap};
@@ -123,14 +123,14 @@ pub(crate) fn reached(world: &World, p: Spot, n: u64, align: u64, write: bool) -
 fn number_at(world: &World, at: &Reach, n: u64) -> Option<u64>
     requires few { n ≤ 8 }
     requires reached { IsReach world.now.memory.table at.now n }
-    ensures { IfSome result (λ k. IsPlainNumber (read world.now.memory.bytes at.now.address n) k) }
+    ensures { IfSome result (λ k. IsPlainNumber (bytes_from world.now.memory.bytes at.now.address n) k) }
 {
     world.memory().number(at, n)
 }
 
 /// The greatest member of the kind (C17 6.2.5p2, p5, p9).
 fn greatest(kind: IntKind) -> u64
-    ensures { pos result ≡ greatest kind }
+    ensures { pos result ≡ greatest_member kind }
 {
     match kind {
         IntKind::Bool => 1,

@@ -2,7 +2,7 @@
 ghost use Rattle.std.specs.Prelude.{◌≡◌, ◌+◌, ◌^◌, ◌<◌, ◌≤◌, true, Some, IfSome, IfNone};
 ghost use Rattle.pv_seq.specs.Frames.{AllRead};
 ghost use Rattle.pv_typed.specs.Known.{AreKnown};
-ghost use Rattle.pv_typed.specs.Plain.{counted, both, turns_of};
+ghost use Rattle.pv_typed.specs.Plain.{with_own_turn, sum_of_turns, turns_of};
 ghost use Rattle.pv_typed.specs.NodeTrees.{expression_at, IsExpression};
 ghost use Rattle.pv_world.specs.Coming.{worth_of};
 ghost use Rattle.pv_eval.specs.Runnable.{IsRunnable};
@@ -41,7 +41,7 @@ pub(crate) fn plain_turns(unit: &TypedUnit, n: NodeId) -> Option<u64>
 fn turns_of_both(unit: &TypedUnit, a: NodeId, d: NodeId) -> Option<u64>
     requires left { IsExpression unit.now a }
     requires right { IsExpression unit.now d }
-    ensures { IfSome result (λ k. counted true (both (turns_of (expression_at unit.now a)) (turns_of (expression_at unit.now d))) ≡ Some k) }
+    ensures { IfSome result (λ k. with_own_turn true (sum_of_turns (turns_of (expression_at unit.now a)) (turns_of (expression_at unit.now d))) ≡ Some k) }
 {
     let left = unit.plain_turns(a)?;
     let right = unit.plain_turns(d)?;
@@ -51,7 +51,7 @@ fn turns_of_both(unit: &TypedUnit, a: NodeId, d: NodeId) -> Option<u64>
 /// The turns of a plain operand, and that of its node.
 fn turns_of_one(unit: &TypedUnit, a: NodeId) -> Option<u64>
     requires { IsExpression unit.now a }
-    ensures { IfSome result (λ k. counted true (turns_of (expression_at unit.now a)) ≡ Some k) }
+    ensures { IfSome result (λ k. with_own_turn true (turns_of (expression_at unit.now a)) ≡ Some k) }
 {
     let turns = unit.plain_turns(a)?;
     Some(u64::from(turns) + 1)

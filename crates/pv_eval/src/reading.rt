@@ -3,7 +3,7 @@ ghost use Rattle.std.specs.Prelude.{◌≡◌, ◌≤◌, ◌∷◌, length, tru
 ghost use Rattle.pv_typed.specs.Known.{AreKnown};
 ghost use Rattle.pv_typed.specs.TypedTree.{type_of};
 ghost use Rattle.pv_typed.specs.NodeTrees.{expression_at, IsExpression};
-ghost use Rattle.pv_seq.specs.Sequencing.{noted, rivals};
+ghost use Rattle.pv_seq.specs.Sequencing.{with_access, rivals};
 ghost use Rattle.pv_seq.specs.Rivals.{top, below};
 ghost use Rattle.pv_world.specs.Worths.{pointer_of};
 ghost use Rattle.pv_world.specs.Coming.{Did, worth_of};
@@ -41,7 +41,7 @@ fn read_known(
     requires complete { IsComplete unit.now.known l }
     requires some { 1 ≤ length journal.old }
     ensures did { Did worth_of (does (setting_of unit.now) (Reads (lvalue_in unit.now l.t) (worth_of place.now) (rivals (top journal.old)))) result world.old world.new told.old.items told.new.items }
-    ensures noted { OnOk result (journal.new ≡ noted (access_to (lvalue_in unit.now l.t) (pointer_of (worth_of place.now)) false) (top journal.old) ∷ below journal.old) }
+    ensures noted { OnOk result (journal.new ≡ with_access (access_to (lvalue_in unit.now l.t) (pointer_of (worth_of place.now)) false) (top journal.old) ∷ below journal.old) }
 {
     if world.knows(place) {
         read_from(alloc, unit, l, pointer_of(place), journal, world, told)
@@ -63,7 +63,7 @@ fn read_place(
     requires known { AreKnown unit.now }
     requires some { 1 ≤ length journal.old }
     ensures did { Did worth_of (does (setting_of unit.now) (Reads (lvalue_in unit.now t) (worth_of place.now) (rivals (top journal.old)))) result world.old world.new told.old.items told.new.items }
-    ensures noted { OnOk result (journal.new ≡ noted (access_to (lvalue_in unit.now t) (pointer_of (worth_of place.now)) false) (top journal.old) ∷ below journal.old) }
+    ensures noted { OnOk result (journal.new ≡ with_access (access_to (lvalue_in unit.now t) (pointer_of (worth_of place.now)) false) (top journal.old) ∷ below journal.old) }
 {
     match measured(unit.types(), t) {
         Some(l) => read_known(alloc, unit, l, place, journal, world, told),
@@ -87,7 +87,7 @@ fn write_known(
     requires complete { IsComplete unit.now.known l }
     requires some { 1 ≤ length journal.old }
     ensures did { Did worth_of (does (setting_of unit.now) (Writes (lvalue_in unit.now l.t) (worth_of place.now) (worth_of v) from (rivals (top journal.old)))) result world.old world.new told.old.items told.new.items }
-    ensures noted { OnOk result (journal.new ≡ noted (access_to (lvalue_in unit.now l.t) (pointer_of (worth_of place.now)) true) (top journal.old) ∷ below journal.old) }
+    ensures noted { OnOk result (journal.new ≡ with_access (access_to (lvalue_in unit.now l.t) (pointer_of (worth_of place.now)) true) (top journal.old) ∷ below journal.old) }
 {
     if world.can_write(shape(unit.types(), l.t), l.size, place, &v) {
         write_to(
@@ -121,7 +121,7 @@ fn write_place(
     requires known { AreKnown unit.now }
     requires some { 1 ≤ length journal.old }
     ensures did { Did worth_of (does (setting_of unit.now) (Writes (lvalue_in unit.now t) (worth_of place.now) (worth_of v) from (rivals (top journal.old)))) result world.old world.new told.old.items told.new.items }
-    ensures noted { OnOk result (journal.new ≡ noted (access_to (lvalue_in unit.now t) (pointer_of (worth_of place.now)) true) (top journal.old) ∷ below journal.old) }
+    ensures noted { OnOk result (journal.new ≡ with_access (access_to (lvalue_in unit.now t) (pointer_of (worth_of place.now)) true) (top journal.old) ∷ below journal.old) }
 {
     match measured(unit.types(), t) {
         Some(l) => write_known(alloc, unit, l, place, v, from, journal, world, told),

@@ -5,7 +5,7 @@ ghost use Rattle.pv_typed.specs.Trees.{takes_turn};
 ghost use Rattle.pv_typed.specs.Tables.{Stored};
 ghost use Rattle.pv_typed.specs.NodeTrees.{expression_at, IsExpression};
 ghost use Rattle.pv_eval.specs.States.{Setting, State};
-ghost use Rattle.pv_seq.specs.Sequencing.{opened};
+ghost use Rattle.pv_seq.specs.Sequencing.{open_against};
 ghost use Rattle.pv_seq.specs.Rivals.{top, below};
 ghost use Rattle.pv_eval.specs.Steps.{Calling, takes};
 ghost use Rattle.pv_world.specs.Coming.{worth_of};
@@ -82,13 +82,13 @@ pub(crate) fn descend(
 ) -> Result<NodeId, Failure>
     requires there { IsExpression unit.now n }
     requires some { 1 ≤ length journal.old }
-    requires fresh { top journal.old ≡ opened (top journal.old).foes }
+    requires fresh { top journal.old ≡ open_against (top journal.old).foes }
     requires frames { All (FrameFits unit.now) frames.old.items }
     requires matched { Matched frames.old.items journal.old }
     ensures same { (b : Setting) (call : Calling) (s : State) → IfOk result (λ m. ahead b call unit.now frames.old.items journal.old (Now.Due n) s ≡ ahead b call unit.now frames.new.items journal.new (Now.Due m) s) }
     ensures there { IfOk result (λ m. IsExpression unit.now m) }
     ensures counts { IfOk result (λ m. takes (takes_turn (expression_at unit.now m)) (form_of (expression_at unit.now m)) ≡ true) }
-    ensures fresh { IfOk result (λ m. top journal.new ≡ opened (top journal.new).foes) }
+    ensures fresh { IfOk result (λ m. top journal.new ≡ open_against (top journal.new).foes) }
     ensures frames { IfOk result (λ m. All (FrameFits unit.now) frames.new.items) }
     ensures matched { IfOk result (λ m. Matched frames.new.items journal.new) }
     ensures memory { IfErr result (λ e. e ≡ Failure.NoMemory) }
@@ -113,7 +113,7 @@ pub(crate) fn wait(frames: &mut Vec<Frame>, journal: &mut Journal, a: NodeId, fr
     ensures kept { (b : Setting) (call : Calling) (u : Stored) (s : State) → IsTrue result → ahead_by b call u frames.old.items journal.old (Move.Operand a frame) s ≡ ahead b call u frames.new.items journal.new (Now.Due a) s }
     ensures frames { (u : Stored) → FrameFits u frame → All (FrameFits u) frames.old.items → All (FrameFits u) frames.new.items }
     ensures matched { IsTrue result → length journal.old ≡ length frames.old.items + 1 → Matched frames.new.items journal.new }
-    ensures fresh { IsTrue result → top journal.new ≡ opened (top journal.new).foes }
+    ensures fresh { IsTrue result → top journal.new ≡ open_against (top journal.new).foes }
     ensures some { IsTrue result → 1 ≤ length journal.new }
 {
     if frames.push(frame).is_err() {

@@ -3,7 +3,7 @@ ghost use Rattle.std.specs.Prelude.{◌≡◌, ◌≤◌, true};
 ghost use Rattle.pv_prov.specs.Names.{twin_at};
 ghost use Rattle.pv_prov.specs.Made.{Stands_low, Stands_high};
 ghost use Rattle.pv_inst.specs.Table.{IsMadeIn};
-ghost use Rattle.pv_eval.specs.Acting.{sided};
+ghost use Rattle.pv_eval.specs.Acting.{with_side};
 ghost use Rattle.pv_eval.specs.ActingParts.{keeps_both};
 ghost use Rattle.pv_eval.specs.Moments.{sides_of};
 ghost use Rattle.pv_eval.specs.Siding.{side_for};
@@ -54,7 +54,7 @@ fn keeps_both(world: &World, pair: u64) -> bool
 /// A pair that keeps both keeps its high one or its low one alone.
 pub(crate) fn keep_side(world: &mut World, pair: u64, high: bool)
     requires { IsMadeIn world.old.memory.table (Prov.Pair pair) }
-    ensures { world.new ≡ sided world.old pair high }
+    ensures { world.new ≡ with_side world.old pair high }
 {
     if keeps_both(world, pair) {
         world.memory_mut().side(pair, high);

@@ -1,7 +1,7 @@
 // Expressions that were started.
 ghost use Rattle.std.specs.Prelude.{◌≡◌, ◌+◌, ◌<◌, ◌≤◌, ◌^◌, ◌∷◌, [], List, length, map, true, false, IfOk, OnOk, OnErr};
 ghost use Rattle.pv_typed.specs.Tables.{Stored};
-ghost use Rattle.pv_seq.specs.Sequencing.{opened, sequence_point};
+ghost use Rattle.pv_seq.specs.Sequencing.{open_against, sequence_point};
 ghost use Rattle.pv_seq.specs.Frames.{AllRead, with_reads};
 ghost use Rattle.pv_seq.specs.Rivals.{top, below};
 ghost use Rattle.pv_world.specs.Coming.{worth_of};
@@ -42,13 +42,13 @@ pub(crate) struct Stacks {
 
 impl Model for Stacks {
     ghost use Rattle.std.specs.Prelude.{◌≡◌, [], ◌∷◌, ℕ};
-    ghost use Rattle.pv_seq.specs.Sequencing.{opened};
+    ghost use Rattle.pv_seq.specs.Sequencing.{open_against};
 
     ghost Value = { ℕ };
 
     ghost view = { λ s. 0 };
 
-    ghost invariant = { λ s. (s.held.value.frames.items ≡ []) × (s.held.value.journal ≡ opened [] ∷ []) };
+    ghost invariant = { λ s. (s.held.value.frames.items ≡ []) × (s.held.value.journal ≡ open_against [] ∷ []) };
 }
 
 impl Stacks {
@@ -104,15 +104,15 @@ impl Model for Started {
     ghost view = { λ e. record { root = e.root; frames = e.held.value.frames.items; opens = e.held.value.journal; place = e.place } };
 
     ghost use Rattle.std.specs.Prelude.{true, [], ◌∷◌};
-    ghost use Rattle.pv_seq.specs.Sequencing.{opened};
+    ghost use Rattle.pv_seq.specs.Sequencing.{open_against};
 
-    ghost invariant = { λ e. (is_due_at e.place ≡ false → Matched e.held.value.frames.items e.held.value.journal) × (e.untouched ≡ true → (e.held.value.frames.items ≡ []) × (e.held.value.journal ≡ opened [] ∷ [])) };
+    ghost invariant = { λ e. (is_due_at e.place ≡ false → Matched e.held.value.frames.items e.held.value.journal) × (e.untouched ≡ true → (e.held.value.frames.items ≡ []) × (e.held.value.journal ≡ open_against [] ∷ [])) };
 }
 
 impl Started {
     /// A full expression, which has no foes (C17 6.8p4).
     pub(crate) fn new(stacks: Stacks, n: NodeId) -> Started
-        ensures { result ≡ record { root = n; frames = []; opens = opened [] ∷ []; place = Now.Due n } }
+        ensures { result ≡ record { root = n; frames = []; opens = open_against [] ∷ []; place = Now.Due n } }
     {
         let Stacks { held } = stacks;
         Started {

@@ -7,7 +7,7 @@ ghost use Rattle.pv_typed.specs.NodeTrees.{expression_at, IsExpression};
 ghost use Rattle.pv_eval.specs.Steps.{source_of, is_minus, is_unequal};
 ghost use Rattle.pv_types.specs.Known.{tree};
 ghost use Rattle.pv_world.specs.Coming.{worth_of};
-ghost use Rattle.pv_eval.specs.Ahead.{given};
+ghost use Rattle.pv_eval.specs.Ahead.{move_of};
 ghost use Rattle.pv_eval.specs.Moments.{IsMemory};
 
 use crate::failure::Failure;
@@ -57,7 +57,7 @@ impl Kept {
 
 /// A value, or why there is none, as a move.
 pub(crate) fn give(r: Result<Got, Failure>) -> Result<Move, Failure>
-    ensures { result ≡ given r }
+    ensures { result ≡ move_of r }
 {
     match r {
         Ok(v) => Ok(Move::Give(v)),

@@ -17,7 +17,7 @@ use Rattle.pv_eval.specs.Evaluation.{ev}
 use Rattle.pv_eval.specs.Sequenced.{Given}
 use Rattle.pv_eval.specs.Stack.{rest}
 use Rattle.pv_eval.specs.Moments.{Moment, IsSetting, state_of}
-use Rattle.pv_eval.specs.Machines.{Machine, Started, left_of, ended, is_due, is_ended, is_going, is_value, is_call_at, due_turns, after_first}
+use Rattle.pv_eval.specs.Machines.{Machine, Started, left_of, ended_value, is_due, is_ended, is_going, is_value, is_call_at, due_turns, after_first}
 use Rattle.pv_eval.specs.MachineSteps.{KeepsSetting}
 use Rattle.pv_exec.specs.declared.once.After.{After}
 use Rattle.pv_exec.specs.declared.once.After.TheVariants as after
@@ -26,21 +26,21 @@ use Rattle.pv_exec.specs.declared.task.Doing.{Doing}
 use Rattle.pv_exec.specs.declared.task.Doing.TheVariants as doing
 use Rattle.pv_exec.specs.declared.task.Flow.TheVariants as flow
 use Rattle.pv_exec.specs.Execution.{ex}
-use Rattle.pv_exec.specs.Entering.{entered}
-use Rattle.pv_exec.specs.Flows.{Falls, full, nothing_done}
-use Rattle.pv_exec.specs.Tasks.{Reached, Left, Valued, left}
+use Rattle.pv_exec.specs.Entering.{behind_turn}
+use Rattle.pv_exec.specs.Flows.{Falls, full_expression, nothing_done}
+use Rattle.pv_exec.specs.Tasks.{Reached, Left, Valued, left_flow}
 use Rattle.pv_exec.specs.Calls.{below}
-use Rattle.pv_exec.specs.Works.{does, due, asked, others, after_work, Standing}
+use Rattle.pv_exec.specs.Works.{does, due, turn_due, others, after_work, Standing}
 use Rattle.pv_exec.specs.Fits.{Runs, DoingFits, TasksStand}
 use Rattle.pv_eval.specs.Plainly.{GivesValue}
-use Rattle.pv_eval.specs.AtOnce.{EvaluatedFirst, ContinuesFirst, CutFirst, ticked, EvaluatedNext, CutNext}
+use Rattle.pv_eval.specs.AtOnce.{EvaluatedFirst, ContinuesFirst, CutFirst, with_turn_taken, EvaluatedNext, CutNext}
 use Rattle.pv_exec.specs.Turning.{UntilDueLed, AdvancedLed, AtOnceLed, CutBefore}
 use Rattle.pv_exec.proofs.Bounds.{holds-out, holds-asked, has-stores}
 use Rattle.pv_exec.proofs.Turns.{keeps-setting}
 use Rattle.pv_exec.proofs.Pieces.{turned}
 
 -- a full expression that was started
-does-at-once : (b : Setting) (u : Stored) (k : ℕ) (es fs : List Started) (s s' : State) → GivesValue (left_of b (below b k).call u es s) (ended fs) s' → does b u k es doing.Evaluate s ≡ does b u k fs doing.Evaluated s'
+does-at-once : (b : Setting) (u : Stored) (k : ℕ) (es fs : List Started) (s s' : State) → GivesValue (left_of b (below b k).call u es s) (ended_value fs) s' → does b u k es doing.Evaluate s ≡ does b u k fs doing.Evaluated s'
 unfolding does
 does-at-once b u k es fs s s' h = ap (λ (m : Res Given). then_do m (λ g s. Gives (Valued g.value) s)) h.is ∙ ap (λ v. Gives (Valued v) s') h.value
 
@@ -145,7 +145,7 @@ cut-turn u d ts old new one fits t = λ b out es hs hl all low high g.
     subst (λ (n : ℕ). all ≡ Stops Turns (state_of (record old.moment { taken = n }) out es)) met (holds-out b u all ts old.started d (state_of old.moment out es) one (has-stores b u old.started d hs.unit fits) (omega (arith, met)) g)
 
 -- one turn at most, behind operations that take none
-pub cut-few : (u : Stored) (d : Doing) (ts : List Task) (old new : Machine) → asked old.started d ≡ 1 → DoingFits u old.started d → new.moment.taken ≤ old.moment.taken + 1 → CutBefore u d ts old new
+pub cut-few : (u : Stored) (d : Doing) (ts : List Task) (old new : Machine) → turn_due old.started d ≡ 1 → DoingFits u old.started d → new.moment.taken ≤ old.moment.taken + 1 → CutBefore u d ts old new
 cut-few u d ts old new one fits t = λ b out es hs hl all low high g.
     let met : old.moment.taken ≡ b.bound = omega (arith, t, low, high) in
     subst (λ (n : ℕ). all ≡ Stops Turns (state_of (record old.moment { taken = n }) out es)) met (holds-asked b u all ts old.started d (state_of old.moment out es) one (has-stores b u old.started d hs.unit fits) fits (omega (arith, met)) g)
@@ -158,26 +158,26 @@ runs-at-once u ts es fs d e h same fits = record { tasks_fit = h.tasks_fit; stan
 
 -- an expression statement (6.8.3p2) once its turn is taken
 statement-enters : (b : Setting) (u : Stored) (k : ℕ) (n x : NodeId) (line : ℕ) (es : List Started) (s : State) → statement_at u n ≡ Expression line (expression_at u x) → s.taken < b.bound
-    → does b u k es (doing.Enter n) s ≡ left (nothing_done (full b (below b k).call (expression_at u x) (spend s)))
+    → does b u k es (doing.Enter n) s ≡ left_flow (nothing_done (full_expression b (below b k).call (expression_at u x) (spend s)))
 unfolding does
 statement-enters b u k n x line es s form room =
     let w = below b k in
     let t = Expression line (expression_at u x) in
-    ap (λ z. left (ex b w z s)) form
-    ∙ ap left (turned b w t s refl)
-    ∙ ap (λ (q : Bool). left (if q then entered b w t (spend s) else Stops Turns s)) (lt-ltb s.taken b.bound room)
+    ap (λ z. left_flow (ex b w z s)) form
+    ∙ ap left_flow (turned b w t s refl)
+    ∙ ap (λ (q : Bool). left_flow (if q then behind_turn b w t (spend s) else Stops Turns s)) (lt-ltb s.taken b.bound room)
 
-falls-then : (r : Res Given) (g : Given) (s : State) → r ≡ Gives g s → left (nothing_done (then_do r (λ g s. Gives g.value s))) ≡ Gives (Left Falls) s
-falls-then r g s h = ap (λ (m : Res Given). left (nothing_done (then_do m (λ g s. Gives g.value s)))) h
+falls-then : (r : Res Given) (g : Given) (s : State) → r ≡ Gives g s → left_flow (nothing_done (then_do r (λ g s. Gives g.value s))) ≡ Gives (Left Falls) s
+falls-then r g s h = ap (λ (m : Res Given). left_flow (nothing_done (then_do m (λ g s. Gives g.value s)))) h
 
-stops-then : (r : Res Given) (s : State) → r ≡ Stops Turns s → left (nothing_done (then_do r (λ g s. Gives g.value s))) ≡ Stops Turns s
-stops-then r s h = ap (λ (m : Res Given). left (nothing_done (then_do m (λ g s. Gives g.value s)))) h
+stops-then : (r : Res Given) (s : State) → r ≡ Stops Turns s → left_flow (nothing_done (then_do r (λ g s. Gives g.value s))) ≡ Stops Turns s
+stops-then r s h = ap (λ (m : Res Given). left_flow (nothing_done (then_do m (λ g s. Gives g.value s)))) h
 
 falls-is : (b : Setting) (u : Stored) (k : ℕ) (es : List Started) (s : State) → Gives (Left Falls) s ≡ does b u k es (doing.Left flow.Falls) s
 unfolding does
 falls-is b u k es s = refl
 
-pub ticked-setting : (b : Setting) (u : Stored) (m : Moment) → IsSetting b u m → IsSetting b u (ticked m)
+pub ticked-setting : (b : Setting) (u : Stored) (m : Moment) → IsSetting b u m → IsSetting b u (with_turn_taken m)
 ticked-setting b u m h = record { unit = h.unit; types = h.types; sides = h.sides }
 
 module _ (u : Stored) (n x : NodeId) (line : ℕ) (v : Worth) (ts : List Task) (old new : Machine) (form : statement_at u n ≡ Expression line (expression_at u x)) where

@@ -6,16 +6,16 @@ use Rattle.std.proofs.lemmas.Bool.{le-ltb}
 use Rattle.pv_typed.specs.TypedTree.{TypedTree, Node, Constant, Object, Function, String, Call, CallPointer, LibraryCall, Member, MemberOfValue, Arrow, Increment, Address, Unary, Not, Sizeof, Cast, Arithmetic, PointerSum, PointerDifference, PointerOrder, PointerEquality, LogicalAnd, LogicalOr, Conditional, Assign, CompoundAssign, PointerAssign, Comma, Subscript, Indirection, Read, ArrayPointer, Convert, type_of, line_of}
 use Rattle.pv_typed.specs.TypedStatement.{TypedStatement, Block, Declare, Expression, Empty, If, IfElse, Switch, Case, Default, While, DoWhile, For, ForDeclaration, Continue, Break, Return}
 use Rattle.pv_typed.specs.TypedUnits.{WholeUnit, Store, StoredValue, ValueOf, TextOf, object_at}
-use Rattle.pv_typed.specs.Tables.{Stored, whole}
+use Rattle.pv_typed.specs.Tables.{Stored, whole_unit}
 use Rattle.pv_typed.specs.NodeTrees.{expression_at, statement_at}
-use Rattle.pv_seq.specs.Sequencing.{Access, Open, opened, beside}
+use Rattle.pv_seq.specs.Sequencing.{Access, Open, open_against, beside}
 use Rattle.pv_seq.specs.Rivals.{top, below as opens_below}
 use Rattle.pv_world.specs.Worlds.{Worth}
 use Rattle.pv_world.specs.Worths.{is_true}
 use Rattle.pv_eval.specs.declared.frames.Now.{Now}
 use Rattle.pv_eval.specs.declared.frames.Now.TheVariants as now
 use Rattle.pv_eval.specs.States.{Setting, State, Turns, Res, Gives, Stops, then_do}
-use Rattle.pv_eval.specs.Sequenced.{Given, with_given, work, operand, done}
+use Rattle.pv_eval.specs.Sequenced.{Given, with_given, work, operand, node_value}
 use Rattle.pv_eval.specs.Steps.{Calling, reading}
 use Rattle.pv_eval.specs.Evaluation.{ev}
 use Rattle.pv_eval.specs.Operations.{Moves, Follows, Tests, act}
@@ -28,13 +28,13 @@ use Rattle.pv_eval.specs.Machines.{Started, left_of, is_due_at}
 use Rattle.pv_exec.specs.declared.task.Task.{Task}
 use Rattle.pv_exec.specs.declared.task.Doing.{Doing}
 use Rattle.pv_exec.specs.declared.task.Doing.TheVariants as doing
-use Rattle.pv_exec.specs.Flows.{Flow, Falls, Below, stores_value, stepped, if_tested}
+use Rattle.pv_exec.specs.Flows.{Flow, Falls, Below, stores_value, then_step, if_tested}
 use Rattle.pv_exec.specs.Lists.{store_all}
 use Rattle.pv_exec.specs.Execution.{ex}
 use Rattle.pv_exec.specs.Calls.{below}
-use Rattle.pv_exec.specs.Parts.{Loop, loop_of, rounded}
-use Rattle.pv_exec.specs.Tasks.{Reached, Valued, left}
-use Rattle.pv_exec.specs.Works.{does, due, asked, after_work, Holds}
+use Rattle.pv_exec.specs.Parts.{Loop, loop_of, rest_of_loop}
+use Rattle.pv_exec.specs.Tasks.{Reached, Valued, left_flow}
+use Rattle.pv_exec.specs.Works.{does, due, turn_due, after_work, Holds}
 use Rattle.pv_exec.specs.Fits.{DoingFits}
 use Rattle.pv_exec.proofs.Pieces.{turned}
 
@@ -76,12 +76,12 @@ ev-out b call (Node t line turn (CompoundAssign o k x y)) fs s le = no-tick b s 
 ev-out b call (Node t line turn (PointerAssign g x y)) fs s le = no-tick b s _ le
 ev-out b call (Node t line turn (Comma x y)) fs s le = no-tick b s _ le
 ev-out b call (Node t line true (Subscript x y)) fs s le = no-tick b s _ le
-ev-out b call (Node t line false (Subscript x y)) fs s le = operand-out (ev b call x) (opened fs) s (λ j v s. operand (ev b call y) j s (λ j w s. work b line (Moves false (is_pointer (type_of x)) (element_size b (if is_pointer (type_of x) then type_of x else type_of y)) v w) j s)) (ev-out b call x (beside (opened fs)) s le)
+ev-out b call (Node t line false (Subscript x y)) fs s le = operand-out (ev b call x) (open_against fs) s (λ j v s. operand (ev b call y) j s (λ j w s. work b line (Moves false (is_pointer (type_of x)) (element_size b (if is_pointer (type_of x) then type_of x else type_of y)) v w) j s)) (ev-out b call x (beside (open_against fs)) s le)
 ev-out b call (Node t line true (Indirection x)) fs s le = no-tick b s _ le
-ev-out b call (Node t line false (Indirection x)) fs s le = operand-out (ev b call x) (opened fs) s (λ j v s. work b line (Follows (is_none t) v) j s) (ev-out b call x (beside (opened fs)) s le)
-ev-out b call (Node t line turn (Read x)) fs s le = operand-out (ev b call x) (opened fs) s (λ j p s. reading b (lvalue b (type_of x)) line p j s done) (ev-out b call x (beside (opened fs)) s le)
-ev-out b call (Node t line turn (ArrayPointer x)) fs s le = operand-out (ev b call x) (opened fs) s (done) (ev-out b call x (beside (opened fs)) s le)
-ev-out b call (Node t line turn (Convert x)) fs s le = operand-out (ev b call x) (opened fs) s (done) (ev-out b call x (beside (opened fs)) s le)
+ev-out b call (Node t line false (Indirection x)) fs s le = operand-out (ev b call x) (open_against fs) s (λ j v s. work b line (Follows (is_none t) v) j s) (ev-out b call x (beside (open_against fs)) s le)
+ev-out b call (Node t line turn (Read x)) fs s le = operand-out (ev b call x) (open_against fs) s (λ j p s. reading b (lvalue b (type_of x)) line p j s node_value) (ev-out b call x (beside (open_against fs)) s le)
+ev-out b call (Node t line turn (ArrayPointer x)) fs s le = operand-out (ev b call x) (open_against fs) s (node_value) (ev-out b call x (beside (open_against fs)) s le)
+ev-out b call (Node t line turn (Convert x)) fs s le = operand-out (ev b call x) (open_against fs) s (node_value) (ev-out b call x (beside (open_against fs)) s le)
 
 -- a statement
 ex-out : (b : Setting) (w : Below) (x : TypedStatement) (s : State) → b.bound ≤ s.taken → ex b w x s ≡ Stops Turns s
@@ -148,15 +148,15 @@ dropped-some xs i e = let n : length (drop i xs) ≡ 0 = ap length e in omega (a
 -- what is done now
 pub does-out : (b : Setting) (u : Stored) (k : ℕ) (es : List Started) (d : Doing) (s : State) → due es d ≡ 1 → HasStores b d → b.bound ≤ s.taken → does b u k es d s ≡ Stops Turns s
 unfolding does
-does-out b u k es (doing.Enter n) s e h le = ap left (ex-out b (below b k) (statement_at u n) s le)
-does-out b u k es (doing.Jump n l i) s e h le = ap left (no-tick b s _ le)
+does-out b u k es (doing.Enter n) s e h le = ap left_flow (ex-out b (below b k) (statement_at u n) s le)
+does-out b u k es (doing.Jump n l i) s e h le = ap left_flow (no-tick b s _ le)
 does-out b u k es (doing.Statements l i) s e h le = absurd (omega (arith, e))
 does-out b u k es (doing.Within n) s e h le = absurd (omega (arith, e))
 does-out b u k es (doing.Again x p) s e h le = absurd (omega (arith, e))
 does-out b u k es (doing.Round p) s e h le = absurd (omega (arith, e))
 does-out b u k es (doing.Body p) s e h le = absurd (omega (arith, e))
-does-out b u k es (doing.Store o i) s e h le = ap (λ (m : Res Worth). left (then_do m (λ v s. Gives Falls s))) (stores-out b (below b k).call o (drop i (object_at b.unit o).inits) s h le)
-does-out b u k es doing.Absent s e h le = ap left (no-tick b s _ le)
+does-out b u k es (doing.Store o i) s e h le = ap (λ (m : Res Worth). left_flow (then_do m (λ v s. Gives Falls s))) (stores-out b (below b k).call o (drop i (object_at b.unit o).inits) s h le)
+does-out b u k es doing.Absent s e h le = ap left_flow (no-tick b s _ le)
 does-out b u k es (doing.Left fl) s e h le = absurd (omega (arith, e))
 does-out b u k es (doing.Call f) s e h le = absurd (omega (arith, e))
 does-out b u k es doing.Evaluate s e h le = ap (λ (m : Res Given). then_do m (λ g s. Gives (Valued g.value) s)) (left-out b (below b k).call u es s e le)
@@ -165,8 +165,8 @@ does-out b u k es doing.Evaluated s e h le = absurd (omega (arith, e))
 pub holds-out : (b : Setting) (u : Stored) (all : Res Reached) (ts : List Task) (es : List Started) (d : Doing) (s : State) → due es d ≡ 1 → HasStores b d → b.bound ≤ s.taken → Holds b u all ts es d s → all ≡ Stops Turns s
 holds-out b u all ts es d s e h le g = g.law ∙ ap (λ (m : Res Reached). then_do m (rest (after_work b u) g.works)) (does-out b u g.level es d s e h le)
 
-pub has-stores : (b : Setting) (u : Stored) (es : List Started) (d : Doing) → b.unit ≡ whole u → DoingFits u es d → HasStores b d
-has-stores b u es (doing.Store o i) e h = λ n. absurd (omega (arith, h.1, dropped-some (object_at (whole u) o).inits i (ap (λ (q : WholeUnit). drop i (object_at q o).inits) (sym e) ∙ n)))
+pub has-stores : (b : Setting) (u : Stored) (es : List Started) (d : Doing) → b.unit ≡ whole_unit u → DoingFits u es d → HasStores b d
+has-stores b u es (doing.Store o i) e h = λ n. absurd (omega (arith, h.1, dropped-some (object_at (whole_unit u) o).inits i (ap (λ (q : WholeUnit). drop i (object_at q o).inits) (sym e) ∙ n)))
 has-stores b u es (doing.Enter n) e h = tt
 has-stores b u es (doing.Jump n l i) e h = tt
 has-stores b u es (doing.Statements l i) e h = tt
@@ -181,7 +181,7 @@ has-stores b u es doing.Evaluate e h = tt
 has-stores b u es doing.Evaluated e h = tt
 
 -- an expression of a loop that is there
-step-out : (b : Setting) (call : Calling) (o : Option TypedTree) (go : State → Res Flow) (s : State) → is_some o ≡ true → b.bound ≤ s.taken → stepped b call o go s ≡ Stops Turns s
+step-out : (b : Setting) (call : Calling) (o : Option TypedTree) (go : State → Res Flow) (s : State) → is_some o ≡ true → b.bound ≤ s.taken → then_step b call o go s ≡ Stops Turns s
 step-out b call None go s h le = absurd (cc)
 step-out b call (Some x) go s h le = ap (λ (m : Res Given). then_do (then_do m (λ g s. Gives g.value s)) (λ v s. go s)) (ev-out b call x [] s le)
 
@@ -193,17 +193,17 @@ test-out b call (Some x) go s h le =
 round-out : (b : Setting) (k : ℕ) (l : Loop) (s : State) → is_some l.condition ≡ true → b.bound < s.taken + k → s.taken ≤ b.bound → b.bound ≤ s.taken → (below b k).again l.condition l.step l.body s ≡ Stops Turns s
 unfolding below
 round-out b zero l s h lt most le = absurd (omega (arith, lt, most))
-round-out b (suc k) l s h lt most le = test-out b (below b k).call l.condition (λ s. then_do (ex b (below b k) l.body s) (rounded b (below b k) l)) s h le
+round-out b (suc k) l s h lt most le = test-out b (below b k).call l.condition (λ s. then_do (ex b (below b k) l.body s) (rest_of_loop b (below b k) l)) s h le
 
 -- the same of what is asked for before it is started
-does-asked : (b : Setting) (u : Stored) (k : ℕ) (es : List Started) (d : Doing) (s : State) → asked es d ≡ 1 → HasStores b d → DoingFits u es d → b.bound < s.taken + k + due es d → s.taken ≤ b.bound → b.bound ≤ s.taken → does b u k es d s ≡ Stops Turns s
+does-asked : (b : Setting) (u : Stored) (k : ℕ) (es : List Started) (d : Doing) (s : State) → turn_due es d ≡ 1 → HasStores b d → DoingFits u es d → b.bound < s.taken + k + due es d → s.taken ≤ b.bound → b.bound ≤ s.taken → does b u k es d s ≡ Stops Turns s
 unfolding does
 does-asked b u k es (doing.Enter n) s e h f lt most le = does-out b u k es (doing.Enter n) s refl h le
 does-asked b u k es (doing.Jump n l i) s e h f lt most le = does-out b u k es (doing.Jump n l i) s refl h le
 does-asked b u k es (doing.Statements l i) s e h f lt most le = absurd (omega (arith, e))
 does-asked b u k es (doing.Within n) s e h f lt most le = absurd (omega (arith, e))
-does-asked b u k es (doing.Again x p) s e h f lt most le = ap left (step-out b (below b k).call (loop_of (statement_at u p.statement)).step ((below b k).again (loop_of (statement_at u p.statement)).condition (loop_of (statement_at u p.statement)).step (loop_of (statement_at u p.statement)).body) s (ap is_some f.step) le)
-does-asked b u k es (doing.Round p) s e h f lt most le = ap left (round-out b k (loop_of (statement_at u p.statement)) s (ap is_some f.condition) (omega (arith, lt)) most le)
+does-asked b u k es (doing.Again x p) s e h f lt most le = ap left_flow (step-out b (below b k).call (loop_of (statement_at u p.statement)).step ((below b k).again (loop_of (statement_at u p.statement)).condition (loop_of (statement_at u p.statement)).step (loop_of (statement_at u p.statement)).body) s (ap is_some f.step) le)
+does-asked b u k es (doing.Round p) s e h f lt most le = ap left_flow (round-out b k (loop_of (statement_at u p.statement)) s (ap is_some f.condition) (omega (arith, lt)) most le)
 does-asked b u k es (doing.Body p) s e h f lt most le = absurd (omega (arith, e))
 does-asked b u k es (doing.Store o i) s e h f lt most le = does-out b u k es (doing.Store o i) s refl h le
 does-asked b u k es doing.Absent s e h f lt most le = does-out b u k es doing.Absent s refl h le
@@ -212,5 +212,5 @@ does-asked b u k es (doing.Call g) s e h f lt most le = absurd (omega (arith, e)
 does-asked b u k es doing.Evaluate s e h f lt most le = does-out b u k es doing.Evaluate s e h le
 does-asked b u k es doing.Evaluated s e h f lt most le = absurd (omega (arith, e))
 
-pub holds-asked : (b : Setting) (u : Stored) (all : Res Reached) (ts : List Task) (es : List Started) (d : Doing) (s : State) → asked es d ≡ 1 → HasStores b d → DoingFits u es d → b.bound ≤ s.taken → Holds b u all ts es d s → all ≡ Stops Turns s
+pub holds-asked : (b : Setting) (u : Stored) (all : Res Reached) (ts : List Task) (es : List Started) (d : Doing) (s : State) → turn_due es d ≡ 1 → HasStores b d → DoingFits u es d → b.bound ≤ s.taken → Holds b u all ts es d s → all ≡ Stops Turns s
 holds-asked b u all ts es d s e h f le g = g.law ∙ ap (λ (m : Res Reached). then_do m (rest (after_work b u) g.works)) (does-asked b u g.level es d s e h f g.room g.most le)

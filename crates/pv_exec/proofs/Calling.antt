@@ -7,7 +7,7 @@ use Rattle.pv_typed.specs.TypedStatement.{TypedStatement}
 use Rattle.pv_eval.specs.declared.marked.Marked.{Marked}
 use Rattle.pv_eval.specs.Moments.{Moment, state_of, Made}
 use Rattle.pv_typed.specs.TypedUnits.{WholeUnit, function_at}
-use Rattle.pv_typed.specs.Tables.{Stored, whole}
+use Rattle.pv_typed.specs.Tables.{Stored, whole_unit}
 use Rattle.pv_typed.specs.NodeTrees.{statement_at}
 use Rattle.pv_world.specs.Worlds.{Worth, Nothing}
 use Rattle.pv_world.specs.Coming.{worth_of}
@@ -19,7 +19,7 @@ use Rattle.pv_eval.specs.declared.frames.Frame.{Frame}
 use Rattle.pv_eval.specs.declared.frames.Now.{Now}
 use Rattle.pv_eval.specs.declared.frames.Now.TheVariants as now
 use Rattle.pv_eval.specs.States.{Setting, State, Res, Gives, Stops, then_do}
-use Rattle.pv_eval.specs.Sequenced.{Given, done}
+use Rattle.pv_eval.specs.Sequenced.{Given, node_value}
 use Rattle.pv_eval.specs.Steps.{Calling}
 use Rattle.pv_eval.specs.Operations.{BeginsBody, EndsBody, act}
 use Rattle.pv_eval.specs.Stack.{rest}
@@ -34,11 +34,11 @@ use Rattle.pv_exec.specs.declared.task.Way.TheVariants as way
 use Rattle.pv_exec.specs.Flows.{Flow}
 use Rattle.pv_exec.specs.Blocks.{end_all}
 use Rattle.pv_exec.specs.Calls.{below, take_params, runs_body, value_by}
-use Rattle.pv_exec.specs.Tasks.{Valued, left, after_flow, after_task}
+use Rattle.pv_exec.specs.Tasks.{Valued, left_flow, after_flow, after_task}
 use Rattle.pv_exec.specs.Fits.{DoingFits}
 use Rattle.pv_exec.specs.Works.{does, due}
 use Rattle.pv_exec.specs.Leading.{Leads, LeadsOr}
-use Rattle.pv_exec.specs.Called.{begun, BodyIs, calls}
+use Rattle.pv_exec.specs.Called.{body_beginning, BodyIs, calls}
 use Rattle.pv_exec.proofs.Pieces.{pushed, then-then}
 
 -- what follows a body, in its clause and in that of the task
@@ -60,8 +60,8 @@ pub taken-same : (b : Setting) (call : Calling) (u : Stored) (new old : List Sta
 taken-same b call u [] old h = absurd h
 taken-same b call u (e ∷ es) [] h = absurd h
 taken-same b call u (e ∷ es) (f ∷ fs) h =
-    ap (λ (fr : List Frame). λ (v : Worth) (s : State). then_do (done (sequence_point (top e.opens)) v s) (rest (after b call u) (stack fr (opens_below e.opens)))) h.0
-    ∙ ap (λ (op : List Open). λ (v : Worth) (s : State). then_do (done (sequence_point (top op)) v s) (rest (after b call u) (stack f.frames (opens_below op)))) h.1
+    ap (λ (fr : List Frame). λ (v : Worth) (s : State). then_do (node_value (sequence_point (top e.opens)) v s) (rest (after b call u) (stack fr (opens_below e.opens)))) h.0
+    ∙ ap (λ (op : List Open). λ (v : Worth) (s : State). then_do (node_value (sequence_point (top op)) v s) (rest (after b call u) (stack f.frames (opens_below op)))) h.1
 
 pub taken-rest : (new old : List Started) → IsTaken new old → after_first new ≡ after_first old
 taken-rest [] old h = absurd h
@@ -69,7 +69,7 @@ taken-rest (e ∷ es) [] h = absurd h
 taken-rest (e ∷ es) (f ∷ fs) h = h.2
 
 -- a call, whose parameters have their arguments
-call-begun : (b : Setting) (k f line : ℕ) (vs : List Worth) (s : State) (r : Res Worth) → begun b line (function_at b.unit f) vs s ≡ r → (below b (suc k)).call f vs line s ≡ then_do r (λ x s. then_do (runs_body b (below b k) (function_at b.unit f).body s) (λ fl s. then_do (end_all b (function_at b.unit f).params s) (λ x s. then_do (act b line EndsBody s) (λ x s. Gives (value_by b (function_at b.unit f) fl) s))))
+call-begun : (b : Setting) (k f line : ℕ) (vs : List Worth) (s : State) (r : Res Worth) → body_beginning b line (function_at b.unit f) vs s ≡ r → (below b (suc k)).call f vs line s ≡ then_do r (λ x s. then_do (runs_body b (below b k) (function_at b.unit f).body s) (λ fl s. then_do (end_all b (function_at b.unit f).params s) (λ x s. then_do (act b line EndsBody s) (λ x s. Gives (value_by b (function_at b.unit f) fl) s))))
 unfolding below
 call-begun b k f line vs s r h =
     let F = function_at b.unit f in
@@ -77,7 +77,7 @@ call-begun b k f line vs s r h =
     then-then (act b line BeginsBody s) (λ x s. take_params b line F.params vs s) G ∙ ap (λ m. then_do m G) h
 
 -- the body begins
-pub call-leads : (b : Setting) (u : Stored) (k f : ℕ) (d : Doing) (old new : List Started) (s s2 : State) → s2.taken ≤ b.bound → b.bound < s2.taken + k → b.unit ≡ whole u → BodyIs u f d → IsTaken new old → begun b (asked_line old) (function_at b.unit f) (asked_arguments old) s ≡ Gives Nothing s2 → Leads b u (calls b u k f old s) (after_first old) (way.With (task.InCall f (asked_line old)) d) new s2
+pub call-leads : (b : Setting) (u : Stored) (k f : ℕ) (d : Doing) (old new : List Started) (s s2 : State) → s2.taken ≤ b.bound → b.bound < s2.taken + k → b.unit ≡ whole_unit u → BodyIs u f d → IsTaken new old → body_beginning b (asked_line old) (function_at b.unit f) (asked_arguments old) s ≡ Gives Nothing s2 → Leads b u (calls b u k f old s) (after_first old) (way.With (task.InCall f (asked_line old)) d) new s2
 unfolding after_flow
 call-leads b u zero f d old new s s2 le lt is body taken h = absurd (omega (arith, le, lt))
 call-leads b u (suc k) f d old new s s2 le lt is body taken h =
@@ -103,16 +103,16 @@ call-leads b u (suc k) f d old new s s2 le lt is body taken h =
       room = omega (arith, lt, one);
     }
 
-pub call-stops : (b : Setting) (u : Stored) (k f : ℕ) (e : Failure) (old stand new : List Started) (s s' : State) → s.taken ≤ b.bound → b.bound < s.taken + k → Made (begun b (asked_line old) (function_at b.unit f) (asked_arguments old) s) (Err e) s' → LeadsOr b u (calls b u k f old s) stand (Err e) new s'
+pub call-stops : (b : Setting) (u : Stored) (k f : ℕ) (e : Failure) (old stand new : List Started) (s s' : State) → s.taken ≤ b.bound → b.bound < s.taken + k → Made (body_beginning b (asked_line old) (function_at b.unit f) (asked_arguments old) s) (Err e) s' → LeadsOr b u (calls b u k f old s) stand (Err e) new s'
 call-stops b u k f failure.NoMemory old stand new s s' le lt h = tt
 call-stops b u zero f (failure.Stop y line) old stand new s s' le lt h = absurd (omega (arith, le, lt))
 call-stops b u (suc k) f (failure.Stop y line) old stand new s s' le lt h =
     ap (λ r. then_do (then_do r (answered_of b (below b (suc k)).call u old)) (λ (g : Given) (s : State). Gives (Valued g.value) s)) (call-begun b k f (asked_line old) (asked_arguments old) s _ h)
 
 -- the body has ended
-value-now : (b : Setting) (call : Calling) (u : Stored) (p : Now) (j : Open) (v : Worth) (s : State) → is_value p ≡ true → value_at p ≡ v → now_does b call u p j s ≡ done j v s
+value-now : (b : Setting) (call : Calling) (u : Stored) (p : Now) (j : Open) (v : Worth) (s : State) → is_value p ≡ true → value_at p ≡ v → now_does b call u p j s ≡ node_value j v s
 value-now b call u (now.Due n) j v s e h = absurd (cc)
-value-now b call u (now.Value x) j v s e h = ap (λ w. done j w s) h
+value-now b call u (now.Value x) j v s e h = ap (λ w. node_value j w s) h
 value-now b call u (now.Asked f args line) j v s e h = absurd (cc)
 
 pub answered-left : (b : Setting) (call : Calling) (u : Stored) (v : Worth) (new old : List Started) (s : State) → IsAnswered v new old → answered_of b call u old v s ≡ left_of b call u new s
@@ -166,28 +166,28 @@ taken-some [] old h = absurd h
 taken-some (e ∷ es) old h = omega (arith)
 
 -- the body of a function
-pub body-some : (b : Setting) (u : Stored) (k f : ℕ) (x : NodeId) (es : List Started) (s : State) → (function_at b.unit f).body ≡ Some (statement_at u x) → left (runs_body b (below b k) (function_at b.unit f).body s) ≡ does b u k es (doing.Enter x) s
+pub body-some : (b : Setting) (u : Stored) (k f : ℕ) (x : NodeId) (es : List Started) (s : State) → (function_at b.unit f).body ≡ Some (statement_at u x) → left_flow (runs_body b (below b k) (function_at b.unit f).body s) ≡ does b u k es (doing.Enter x) s
 unfolding does
-body-some b u k f x es s e = ap (λ (q : Option TypedStatement). left (runs_body b (below b k) q s)) e
+body-some b u k f x es s e = ap (λ (q : Option TypedStatement). left_flow (runs_body b (below b k) q s)) e
 
-pub body-none : (b : Setting) (u : Stored) (k f : ℕ) (es : List Started) (s : State) → (function_at b.unit f).body ≡ None → left (runs_body b (below b k) (function_at b.unit f).body s) ≡ does b u k es doing.Absent s
+pub body-none : (b : Setting) (u : Stored) (k f : ℕ) (es : List Started) (s : State) → (function_at b.unit f).body ≡ None → left_flow (runs_body b (below b k) (function_at b.unit f).body s) ≡ does b u k es doing.Absent s
 unfolding does
-body-none b u k f es s e = ap (λ (q : Option TypedStatement). left (runs_body b (below b k) q s)) e
+body-none b u k f es s e = ap (λ (q : Option TypedStatement). left_flow (runs_body b (below b k) q s)) e
 
 -- what the code made is what comes before the body
-pub call-made : (b : Setting) (u : Stored) (f line : ℕ) (args : List Worth) (old : List Started) (m mid : Moment) (out : List ℕ) (es : List Marked) (r : Result (Unit {0}) Failure) (s2 : State) → b.unit ≡ whole u → line ≡ asked_line old → args ≡ asked_arguments old → mid ≡ m → Made (begun b line (function_at (whole u) f) args (state_of mid out es)) r s2 → Made (begun b (asked_line old) (function_at b.unit f) (asked_arguments old) (state_of m out es)) r s2
+pub call-made : (b : Setting) (u : Stored) (f line : ℕ) (args : List Worth) (old : List Started) (m mid : Moment) (out : List ℕ) (es : List Marked) (r : Result (Unit {0}) Failure) (s2 : State) → b.unit ≡ whole_unit u → line ≡ asked_line old → args ≡ asked_arguments old → mid ≡ m → Made (body_beginning b line (function_at (whole_unit u) f) args (state_of mid out es)) r s2 → Made (body_beginning b (asked_line old) (function_at b.unit f) (asked_arguments old) (state_of m out es)) r s2
 call-made b u f line args old m mid out es r s2 is l a same h =
-    subst (λ (q : Moment). Made (begun b (asked_line old) (function_at b.unit f) (asked_arguments old) (state_of q out es)) r s2) same
-    (subst (λ (n : ℕ). Made (begun b n (function_at b.unit f) (asked_arguments old) (state_of mid out es)) r s2) l
-    (subst (λ (vs : List Worth). Made (begun b line (function_at b.unit f) vs (state_of mid out es)) r s2) a
-    (subst (λ (q : WholeUnit). Made (begun b line (function_at q f) args (state_of mid out es)) r s2) (sym is) h)))
+    subst (λ (q : Moment). Made (body_beginning b (asked_line old) (function_at b.unit f) (asked_arguments old) (state_of q out es)) r s2) same
+    (subst (λ (n : ℕ). Made (body_beginning b n (function_at b.unit f) (asked_arguments old) (state_of mid out es)) r s2) l
+    (subst (λ (vs : List Worth). Made (body_beginning b line (function_at b.unit f) vs (state_of mid out es)) r s2) a
+    (subst (λ (q : WholeUnit). Made (body_beginning b line (function_at q f) args (state_of mid out es)) r s2) (sym is) h)))
 
 -- an expression that hands a call up: the call is what comes next
 at-asked : (b : Setting) (call : Calling) (u : Stored) (fs : List Frame) (js : List Open) (p : Now) (s : State) → is_call_at p ≡ true
-    → ahead b call u fs js p s ≡ then_do (call (function_asked p) (arguments_at p) (line_at p) s) (λ v s. then_do (done (sequence_point (top js)) v s) (rest (after b call u) (stack fs (opens_below js))))
+    → ahead b call u fs js p s ≡ then_do (call (function_asked p) (arguments_at p) (line_at p) s) (λ v s. then_do (node_value (sequence_point (top js)) v s) (rest (after b call u) (stack fs (opens_below js))))
 at-asked b call u fs js (now.Due n) s h = absurd cc
 at-asked b call u fs js (now.Value v) s h = absurd cc
-at-asked b call u fs js (now.Asked f args line) s h = sym (then-then (call f (map worth_of args.items) line s) (done (sequence_point (top js))) (rest (after b call u) (stack fs (opens_below js))))
+at-asked b call u fs js (now.Asked f args line) s h = sym (then-then (call f (map worth_of args.items) line s) (node_value (sequence_point (top js))) (rest (after b call u) (stack fs (opens_below js))))
 
 asked-calls : (b : Setting) (call : Calling) (u : Stored) (es : List Started) (s : State) → is_asked es ≡ true → left_of b call u es s ≡ then_do (call (asked_function es) (asked_arguments es) (asked_line es) s) (answered_of b call u es)
 asked-calls b call u [] s h = absurd cc

@@ -22,11 +22,11 @@ use Rattle.pv_exec.specs.declared.parts.ChoiceParts.{ChoiceParts}
 use Rattle.pv_exec.specs.declared.task.Task.{Task}
 use Rattle.pv_exec.specs.declared.task.Task.TheVariants as task
 use Rattle.pv_exec.specs.declared.task.Doing.TheVariants as doing
-use Rattle.pv_exec.specs.Entering.{entered, is_labelled}
-use Rattle.pv_exec.specs.Flows.{Below, full}
-use Rattle.pv_exec.specs.Parts.{Choice, choice_of, chosen}
+use Rattle.pv_exec.specs.Entering.{behind_turn, is_labelled}
+use Rattle.pv_exec.specs.Flows.{Below, full_expression}
+use Rattle.pv_exec.specs.Parts.{Choice, choice_of, branch_of}
 use Rattle.pv_exec.specs.Read.{choice_in, other_side_of, side_of, ChoiceFits, HasOther}
-use Rattle.pv_exec.specs.Tasks.{Reached, left, after_value}
+use Rattle.pv_exec.specs.Tasks.{Reached, left_flow, after_value}
 use Rattle.pv_exec.specs.Calls.{below}
 use Rattle.pv_exec.specs.Works.{does, due, others, after_work, Work, Standing}
 use Rattle.pv_exec.specs.Fits.{DoingFits}
@@ -40,7 +40,7 @@ use Rattle.pv_exec.proofs.AtOnce.{ticked-setting}
 -- an `if` with its condition, once its turn is taken
 record IsChoice (b : Setting) (w : Below) (t : TypedStatement) (c : TypedTree) : Type 0 where
   plain : is_labelled t ≡ false
-  enters : (s : State) → left (entered b w t s) ≡ then_do (full b w.call c s) (λ v s. left (chosen b w (choice_of t) v s))
+  enters : (s : State) → left_flow (behind_turn b w t s) ≡ then_do (full_expression b w.call c s) (λ v s. left_flow (branch_of b w (choice_of t) v s))
 
 with-condition : (b : Setting) (w : Below) (t : TypedStatement) (c d : TypedTree) → c ≡ d → IsChoice b w t c → IsChoice b w t d
 with-condition b w t c d e h = subst (λ z. IsChoice b w t z) e h
@@ -88,14 +88,14 @@ module _ (u : Stored) (n : NodeId) (p : ChoiceParts) (t : Bool) (ts : List Task)
   condition = expression_at u p.condition
 
   -- its turn
-  choice-enters : (b : Setting) (k : ℕ) (es : List Started) (s : State) → s.taken < b.bound → does b u k es (doing.Enter n) s ≡ then_do (full b (below b k).call condition (spend s)) (after_value b u k (task.Chosen n))
+  choice-enters : (b : Setting) (k : ℕ) (es : List Started) (s : State) → s.taken < b.bound → does b u k es (doing.Enter n) s ≡ then_do (full_expression b (below b k).call condition (spend s)) (after_value b u k (task.Chosen n))
   unfolding does after_value
   choice-enters b k es s room =
       let w = below b k in
       let x = statement_at u n in
       let h = is-choice b w x (choice_in (nodes u) p) form in
-      ap left (turned b w x s h.plain)
-      ∙ ap (λ (q : Bool). left (if q then entered b w x (spend s) else Stops Turns s)) (lt-ltb s.taken b.bound room)
+      ap left_flow (turned b w x s h.plain)
+      ∙ ap (λ (q : Bool). left_flow (if q then behind_turn b w x (spend s) else Stops Turns s)) (lt-ltb s.taken b.bound room)
       ∙ h.enters (spend s)
 
   value-then : (b : Setting) (k : ℕ) (r : Res Given) (v : Worth) (s : State) → GivesValue r v s → then_do (then_do r (λ g s. Gives g.value s)) (after_value b u k (task.Chosen n)) ≡ after_value b u k (task.Chosen n) v s

@@ -19,18 +19,18 @@ use Rattle.pv_exec.specs.declared.task.Way.TheVariants as way
 use Rattle.pv_exec.specs.Flows.{Falls}
 use Rattle.pv_exec.specs.Execution.{ex}
 use Rattle.pv_exec.specs.Calls.{below}
-use Rattle.pv_exec.specs.Parts.{choice_of, chosen, other_side}
-use Rattle.pv_exec.specs.Tasks.{Left, left, after_value}
+use Rattle.pv_exec.specs.Parts.{choice_of, branch_of, other_side}
+use Rattle.pv_exec.specs.Tasks.{Left, left_flow, after_value}
 use Rattle.pv_exec.specs.Works.{does}
 use Rattle.pv_exec.specs.Leading.{Leads, LeadsOr}
 use Rattle.pv_exec.specs.Read.{choice_in, other_read, other_side_of, side_of}
 
-other-leads : (b : Setting) (u : Stored) (k : ℕ) (o : Rattle.std.specs.declared.option.Option.Option NodeId) (es : List Started) (s : State) → b.bound < s.taken + k → Leads b u (left (other_side b (below b k) (other_read (nodes u) o) s)) es (way.Do (other_side_of o)) es s
+other-leads : (b : Setting) (u : Stored) (k : ℕ) (o : Rattle.std.specs.declared.option.Option.Option NodeId) (es : List Started) (s : State) → b.bound < s.taken + k → Leads b u (left_flow (other_side b (below b k) (other_read (nodes u) o) s)) es (way.Do (other_side_of o)) es s
 unfolding does
 other-leads b u k None es s lt = record { waits = k; level = k; law = refl; stands = refl; room_waits = omega (arith, lt); room = omega (arith, lt) }
 other-leads b u k (Some y) es s lt = record { waits = k; level = k; law = refl; stands = refl; room_waits = omega (arith, lt); room = omega (arith, lt) }
 
-side-leads : (b : Setting) (u : Stored) (k : ℕ) (p : ChoiceParts) (t : Bool) (es : List Started) (s : State) → b.bound < s.taken + k → Leads b u (left (if is_true (truth_int t) then ex b (below b k) (statement_at u p.body) s else other_side b (below b k) (other_read (nodes u) p.other) s)) es (way.Do (side_of p t)) es s
+side-leads : (b : Setting) (u : Stored) (k : ℕ) (p : ChoiceParts) (t : Bool) (es : List Started) (s : State) → b.bound < s.taken + k → Leads b u (left_flow (if is_true (truth_int t) then ex b (below b k) (statement_at u p.body) s else other_side b (below b k) (other_read (nodes u) p.other) s)) es (way.Do (side_of p t)) es s
 unfolding does
 side-leads b u k p true es s lt = record { waits = k; level = k; law = refl; stands = refl; room_waits = omega (arith, lt); room = omega (arith, lt) }
 side-leads b u k p false es s lt = other-leads b u k p.other es s lt
@@ -40,8 +40,8 @@ pub chosen-leads : (b : Setting) (u : Stored) (k line : ℕ) (n : NodeId) (p : C
 unfolding after_value
 chosen-leads b u k line n p t stand new v s s' lt e is h st =
     let G = λ (v : Worth) (s : State). if is_true v then ex b (below b k) (statement_at u p.body) s else other_side b (below b k) (other_read (nodes u) p.other) s in
-    let law : left (chosen b (below b k) (choice_of (statement_at u n)) v s) ≡ left (G (truth_int t) s') = ap (λ q. left (chosen b (below b k) q v s)) e ∙ ap (λ m. left (then_do (act b m (Tests v) s) G)) (sym is) ∙ ap (λ r. left (then_do r G)) h in
-    subst (λ (x : List Started). Leads b u (left (chosen b (below b k) (choice_of (statement_at u n)) v s)) x (way.Do (side_of p t)) new s') st
+    let law : left_flow (branch_of b (below b k) (choice_of (statement_at u n)) v s) ≡ left_flow (G (truth_int t) s') = ap (λ q. left_flow (branch_of b (below b k) q v s)) e ∙ ap (λ m. left_flow (then_do (act b m (Tests v) s) G)) (sym is) ∙ ap (λ r. left_flow (then_do r G)) h in
+    subst (λ (x : List Started). Leads b u (left_flow (branch_of b (below b k) (choice_of (statement_at u n)) v s)) x (way.Do (side_of p t)) new s') st
     (subst (λ m. Leads b u m new (way.Do (side_of p t)) new s') (sym law) (side-leads b u k p t new s' lt))
 
 pub chosen-stops : (b : Setting) (u : Stored) (k line : ℕ) (n : NodeId) (p : ChoiceParts) (e : Failure) (stand new : List Started) (v : Worth) (s s' : State) → choice_of (statement_at u n) ≡ Some (choice_in (nodes u) p) → line ≡ line_of (expression_at u p.condition) → Tested (act b line (Tests v) s) (Err e) s' → LeadsOr b u (after_value b u k (task.Chosen n) v s) stand (Err e) new s'
@@ -49,8 +49,8 @@ unfolding after_value
 chosen-stops b u k line n p failure.NoMemory stand new v s s' e is h = tt
 chosen-stops b u k line n p (failure.Stop y l) stand new v s s' e is h =
     let G = λ (v : Worth) (s : State). if is_true v then ex b (below b k) (statement_at u p.body) s else other_side b (below b k) (other_read (nodes u) p.other) s in
-    ap (λ q. left (chosen b (below b k) q v s)) e ∙ ap (λ m. left (then_do (act b m (Tests v) s) G)) (sym is) ∙ ap (λ r. left (then_do r G)) h
+    ap (λ q. left_flow (branch_of b (below b k) q v s)) e ∙ ap (λ m. left_flow (then_do (act b m (Tests v) s) G)) (sym is) ∙ ap (λ r. left_flow (then_do r G)) h
 
 pub no-choice : (b : Setting) (u : Stored) (k : ℕ) (n : NodeId) (v : Worth) (s : State) → choice_of (statement_at u n) ≡ None → after_value b u k (task.Chosen n) v s ≡ Gives (Left Falls) s
 unfolding after_value
-no-choice b u k n v s e = ap (λ q. left (chosen b (below b k) q v s)) e
+no-choice b u k n v s e = ap (λ q. left_flow (branch_of b (below b k) q v s)) e

@@ -8,13 +8,13 @@ use Rattle.pv_typed.specs.Tables.{Stored}
 use Rattle.pv_world.specs.Worlds.{Worth, World}
 use Rattle.pv_world.specs.Doing.{Done, Answers, Fails, Breaks}
 use Rattle.pv_eval.specs.States.{Setting, State, Why, Turns, Unreached, Stopped, Res, Gives, Stops, then_do, end_of, spend}
-use Rattle.pv_eval.specs.Acting.{acted}
+use Rattle.pv_eval.specs.Acting.{after_doing}
 use Rattle.pv_eval.specs.Constants.{constant_worth}
 use Rattle.pv_eval.specs.Operations.{NamesFunction, MakesFunction, Finds, Op, Converts, Calculates, CalculatesOne, Tests, Negates, Accepts, Needs, Moves, Subtracts, Orders, Equals, Follows, Selects, TakesPart, Reads, Writes, NamesObject, NamesLiteral, Makes, MakesLiteral, Ends, BeginsBody, EndsBody, Fills, Puts, PutsText, Asks, does, act}
 use Rattle.pv_eval.proofs.Closed.{beside_setting}
 use Rattle.pv_exec.specs.declared.outcome.Outcome.TheVariants as outcome
 use Rattle.pv_exec.specs.Calls.{below}
-use Rattle.pv_exec.specs.Run.{setting_of, first, run_of, outcome_of}
+use Rattle.pv_exec.specs.Run.{setting_of, initial_state, run_of, outcome_of}
 use Rattle.pv_exec.specs.Growing.{Grew}
 use Rattle.pv_exec.specs.Laws.{run_at, IsWithin, TakesAll, IsCut}
 use Rattle.pv_exec.proofs.Executed.{WaysIn, Alike, below-closed, run-closed}
@@ -55,13 +55,13 @@ same-does b n (Puts o offset l v) w = refl
 same-does b n (PutsText o offset size l) w = refl
 same-does b n (Asks f args) w = refl
 
-same-acted : (b : Setting) (n line : ℕ) (d : Done) (s : State) → acted (beside_setting b n b.sides) line d s ≡ acted b line d s
+same-acted : (b : Setting) (n line : ℕ) (d : Done) (s : State) → after_doing (beside_setting b n b.sides) line d s ≡ after_doing b line d s
 same-acted b n line (Answers v w t) s = refl
 same-acted b n line (Fails y p w t) s = refl
 same-acted b n line (Breaks y p w t) s = refl
 
 same-act : (b : Setting) (n line : ℕ) (o : Op) (s : State) → act (beside_setting b n b.sides) line o s ≡ act b line o s
-same-act b n line o s = same-acted b n line (does (beside_setting b n b.sides) o s.world) s ∙ ap (λ (d : Done). acted b line d s) (same-does b n o s.world)
+same-act b n line o s = same-acted b n line (does (beside_setting b n b.sides) o s.world) s ∙ ap (λ (d : Done). after_doing b line d s) (same-does b n o s.world)
 
 -- the first was cut off after n turns, and the second went on
 abbrev Over : {A : Type 0} → ℕ → Res A → Res A → Type 0
@@ -132,7 +132,7 @@ run-cut : (u : Stored) (sides : Option (List Bool)) (zap : Bool) (script : List 
 unfolding run_of
 run-cut u sides zap script n l le =
     let b = setting_of u n sides zap in
-    (run-closed b l sides (cutting b l le) n (below-closed b l sides (cutting b l le).ways (bottom b l le) n l le)).cuts (first script zap)
+    (run-closed b l sides (cutting b l le) n (below-closed b l sides (cutting b l le).ways (bottom b l le) n l le)).cuts (initial_state script zap)
 
 is-cut : (n : ℕ) (r r' : Res Worth) → EndFits n (suc n) r → Cut n r r' → IsCut n r r'
 is-cut n r r' h (inl e) = inl e

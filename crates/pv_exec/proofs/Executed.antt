@@ -16,8 +16,8 @@ use Rattle.pv_eval.specs.TypeForms.{Lvalue, lvalue, size_of}
 use Rattle.pv_eval.specs.Constants.{constant_worth}
 use Rattle.pv_eval.specs.Operations.{Op, Tests, Accepts, Needs, Makes, MakesLiteral, MakesFunction, Ends, BeginsBody, EndsBody, Fills, Puts, PutsText, act}
 use Rattle.pv_eval.proofs.Closed.{Relation, IsLvalue, Ways, beside_setting, choice, converted-way, handed-way, ev-closed}
-use Rattle.pv_exec.specs.Flows.{Flow, Falls, Breaks, Continues, Returns, Below, full, testing, falls, goes_on, switched, stores_value, begin_fill, declares, if_tested, stepped, round, round_do, returns_value}
-use Rattle.pv_exec.specs.Blocks.{end_all, scoped}
+use Rattle.pv_exec.specs.Flows.{Flow, Falls, Breaks, Continues, Returns, Below, full_expression, testing, falls, goes_on, behind_switch, stores_value, begin_fill, declares, if_tested, then_step, round, round_do, returns_value}
+use Rattle.pv_exec.specs.Blocks.{end_all, in_block}
 use Rattle.pv_exec.specs.Lists.{make_all, store_all, make_statics, make_literals, make_functions, store_statics, initialize_statics}
 use Rattle.pv_exec.specs.Labels.{Target, ToCase, ToDefault, ToNone, target_of, is_target, unless_none}
 use Rattle.pv_exec.specs.Execution.{ex, exs, exs_at}
@@ -52,7 +52,7 @@ module _ (b : Setting) (n : ℕ) (sides : Option (List Bool)) {R : Relation} (w 
   going Breaks h = w.gives Falls
   going (Returns v) h = w.gives (Returns v)
 
-  pub switching : {k : ℕ} (fl : Flow) → R k k Flow (switched fl) (switched fl)
+  pub switching : {k : ℕ} (fl : Flow) → R k k Flow (behind_switch fl) (behind_switch fl)
   switching Falls = w.gives Falls
   switching Breaks = w.gives Falls
   switching Continues = w.gives Continues
@@ -71,17 +71,17 @@ module _ (b : Setting) (n : ℕ) (sides : Option (List Bool)) {R : Relation} (w 
   end-way [] = w.gives Nothing
   end-way (o ∷ os) = w.seq (w.acts (object_at b.unit o).line (Ends o) tt) (λ v. end-way os)
 
-  pub scoped-way : {k j : ℕ} {m m' : State → Res Flow} (os : List ℕ) → R k j Flow m m' → R k j Flow (scoped b os m) (scoped c os m')
+  pub scoped-way : {k j : ℕ} {m m' : State → Res Flow} (os : List ℕ) → R k j Flow m m' → R k j Flow (in_block b os m) (in_block c os m')
   scoped-way os h = w.seq (make-way os) (λ v. w.seq h (λ fl. w.seq (end-way os) (λ v. w.gives fl)))
 
   module _ (k : ℕ) (u u' : Below) (h : Alike k u u') where
-    pub full-way : (x : TypedTree) → R (suc k) k Worth (full b u.call x) (full c u'.call x)
+    pub full-way : (x : TypedTree) → R (suc k) k Worth (full_expression b u.call x) (full_expression c u'.call x)
     full-way x = w.seq (ev-closed b n sides w k u.call u'.call h.call x []) (λ g. w.gives g.value)
 
     pub testing-way : (x : TypedTree) → R (suc k) k Worth (testing b u.call x) (testing c u'.call x)
     testing-way x = w.seq (full-way x) (λ v. w.acts (line_of x) (Tests v) tt)
 
-    pub stepped-way : {m m' : State → Res Flow} (x : Option TypedTree) → R k k Flow m m' → R k k Flow (stepped b u.call x m) (stepped c u'.call x m')
+    pub stepped-way : {m m' : State → Res Flow} (x : Option TypedTree) → R k k Flow m m' → R k k Flow (then_step b u.call x m) (then_step c u'.call x m')
     stepped-way None g = g
     stepped-way (Some x) g = w.seq (w.less (full-way x)) (λ v. g)
 

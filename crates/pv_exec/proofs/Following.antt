@@ -12,7 +12,7 @@ use Rattle.pv_exec.specs.declared.task.Flow.{Flow}
 use Rattle.pv_exec.specs.declared.task.Doing.TheVariants as doing
 use Rattle.pv_exec.specs.declared.task.Way.{Way}
 use Rattle.pv_exec.specs.declared.task.Way.TheVariants as way
-use Rattle.pv_exec.specs.Works.{others, passed, due}
+use Rattle.pv_exec.specs.Works.{others, behind_call, due}
 use Rattle.pv_exec.specs.Fits.{TaskFits, Stands, TasksStand, WayFits, Runs, RunsOr}
 use Rattle.pv_exec.specs.Quickness.{Quick, QuickOr, Ends, EndsNow, WithinNow, PaceOr}
 use Rattle.pv_exec.specs.Pace.{goes_on, doing_ops, way_ops, FollowedPace}
@@ -34,7 +34,7 @@ pub record Last (u : Stored) (ts : List Task) (t : Task) (es : List Started) : T
   pub fits : TaskFits u t
   pub rest : All (TaskFits u) ts
   pub stands : Stands t es
-  pub below : TasksStand (reverse ts) (passed t es)
+  pub below : TasksStand (reverse ts) (behind_call t es)
 
 pub last-of : (u : Stored) (tasks ts : List Task) (t : Task) (es : List Started) (d : Doing) → tasks ≡ ts ++ t ∷ [] → Runs u tasks es d → Last u ts t (others es d)
 last-of u tasks ts t es d e h =

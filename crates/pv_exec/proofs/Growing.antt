@@ -8,7 +8,7 @@ use Rattle.pv_world.specs.Worlds.{Worth, World}
 use Rattle.pv_world.specs.Doing.{Done, Answers, Fails, Breaks}
 use Rattle.pv_world.specs.Telling.{Told, verdict_of, fault_of, fault_told}
 use Rattle.pv_eval.specs.States.{Setting, State, Turns, Res, Gives, Stops, then_do, end_of, spend}
-use Rattle.pv_eval.specs.Acting.{stamped, noted, pair_count, sided, settling, by_side, answered, acted}
+use Rattle.pv_eval.specs.Acting.{marked_events, after_telling, pair_count, with_side, settling, by_side, answer_with_sides, after_doing}
 use Rattle.pv_eval.specs.Constants.{constant_worth}
 use Rattle.pv_eval.specs.Operations.{Puts, does}
 use Rattle.pv_eval.proofs.Closed.{beside_setting}
@@ -42,14 +42,14 @@ Grows s t = Grew s.taken s t
 pub grows-trans : (s t u : State) → Grows s t → Grows t u → Grows s u
 grows-trans s t u g h = grew-trans s.taken t.taken s t u g.taken g h
 
-stamped-from : (n m : ℕ) (xs : List What) → Each (IsFrom n) (stamped n m xs)
+stamped-from : (n m : ℕ) (xs : List What) → Each (IsFrom n) (marked_events n m xs)
 stamped-from n m [] = tt
 stamped-from n m (x ∷ xs) = (omega arith, stamped-from n m xs)
 
-noted-grows : (w : World) (t : Told) (s : State) → Grows s (noted w t s)
+noted-grows : (w : World) (t : Told) (s : State) → Grows s (after_telling w t s)
 noted-grows w t s = record {
   taken = omega arith;
-  more = stamped s.taken (length s.output) t.events;
+  more = marked_events s.taken (length s.output) t.events;
   events = refl;
   later = stamped-from s.taken (length s.output) t.events;
   bytes = t.bytes;
@@ -58,19 +58,19 @@ noted-grows w t s = record {
 
 side-grows : (o : Option Bool) (v : Worth) (line : ℕ) (w : World) (t : Told) (s : State) → Grows s (end_of (by_side o v line w t s))
 side-grows None v line w t s = noted-grows w (settling (pair_count w) t) s
-side-grows (Some high) v line w t s = noted-grows (sided w (pair_count w) high) (settling (pair_count w) t) s
+side-grows (Some high) v line w t s = noted-grows (with_side w (pair_count w) high) (settling (pair_count w) t) s
 
 either-grows : {A : Type 0} (q : Bool) (s : State) (r x : Res A) → Grows s (end_of r) → Grows s (end_of x) → Grows s (end_of (if q then r else x))
 either-grows true s r x h g = h
 either-grows false s r x h g = g
 
-answered-grows : (o : Option (List Bool)) (v : Worth) (line : ℕ) (w : World) (t : Told) (s : State) → Grows s (end_of (answered o v line w t s))
+answered-grows : (o : Option (List Bool)) (v : Worth) (line : ℕ) (w : World) (t : Told) (s : State) → Grows s (end_of (answer_with_sides o v line w t s))
 answered-grows None v line w t s = noted-grows w t s
 answered-grows (Some sides) v line w t s =
     let o = slice_get sides (pair_count s.world) in
-    either-grows (nat_lt (pair_count s.world) (pair_count w)) s (by_side o v line w t s) (Gives v (noted w t s)) (side-grows o v line w t s) (noted-grows w t s)
+    either-grows (nat_lt (pair_count s.world) (pair_count w)) s (by_side o v line w t s) (Gives v (after_telling w t s)) (side-grows o v line w t s) (noted-grows w t s)
 
-pub acted-grows : (b : Setting) (line : ℕ) (d : Done) (s : State) → Grows s (end_of (acted b line d s))
+pub acted-grows : (b : Setting) (line : ℕ) (d : Done) (s : State) → Grows s (end_of (after_doing b line d s))
 acted-grows b line (Answers v w t) s = answered-grows b.sides v line w t s
 acted-grows b line (Fails y p w t) s = noted-grows w (record t { events = t.events ++ fault_told s.world.memory y p }) s
 acted-grows b line (Breaks y p w t) s = noted-grows w (record t { events = t.events ++ fault_of p (verdict_of y) }) s

@@ -24,9 +24,9 @@ use Rattle.pv_exec.specs.declared.task.Task.{Task}
 use Rattle.pv_exec.specs.declared.task.Task.TheVariants as task
 use Rattle.pv_exec.specs.declared.task.Doing.TheVariants as doing
 use Rattle.pv_exec.specs.declared.task.Flow.TheVariants as flow
-use Rattle.pv_exec.specs.Entering.{entered, is_labelled}
-use Rattle.pv_exec.specs.Flows.{Returns, full}
-use Rattle.pv_exec.specs.Tasks.{Reached, Left, left, after_value, returned_of}
+use Rattle.pv_exec.specs.Entering.{behind_turn, is_labelled}
+use Rattle.pv_exec.specs.Flows.{Returns, full_expression}
+use Rattle.pv_exec.specs.Tasks.{Reached, Left, left_flow, after_value, returned_of}
 use Rattle.pv_exec.specs.Calls.{below}
 use Rattle.pv_exec.specs.Works.{does, after_work, Standing}
 use Rattle.pv_exec.specs.Turning.{AtOnceLed, CutBefore}
@@ -63,14 +63,14 @@ module _ (u : Stored) (n x : NodeId) (v : Got) (ts : List Task) (old new : Machi
   line = statement_line (statement_at u n)
 
   -- its turn
-  return-begins : (b : Setting) (k : ℕ) (es : List Started) (s : State) → s.taken < b.bound → does b u k es (doing.Enter n) s ≡ then_do (full b (below b k).call value (spend s)) (after_value b u k (task.Returning n))
+  return-begins : (b : Setting) (k : ℕ) (es : List Started) (s : State) → s.taken < b.bound → does b u k es (doing.Enter n) s ≡ then_do (full_expression b (below b k).call value (spend s)) (after_value b u k (task.Returning n))
   unfolding does
   return-begins b k es s room =
       let w = below b k in
       let t = statement_at u n in
       let is = returned-form t value form in
-      ap left (turned b w t s (ap is_labelled is))
-      ∙ ap (λ (q : Bool). left (if q then entered b w t (spend s) else Stops Turns s)) (lt-ltb s.taken b.bound room)
+      ap left_flow (turned b w t s (ap is_labelled is))
+      ∙ ap (λ (q : Bool). left_flow (if q then behind_turn b w t (spend s) else Stops Turns s)) (lt-ltb s.taken b.bound room)
       ∙ return-enters b u k n line value (spend s) is
 
   value-then : (b : Setting) (k : ℕ) (r : Res Given) (first : Worth) (s : State) → GivesValue r first s → then_do (then_do r (λ g s. Gives g.value s)) (after_value b u k (task.Returning n)) ≡ after_value b u k (task.Returning n) first s

@@ -13,7 +13,7 @@ use Rattle.pv_world.specs.Worths.{is_true, int_of}
 use Rattle.pv_eval.specs.States.{Setting, State, Res, Stops, Unreached}
 use Rattle.pv_eval.specs.TypeForms.{lvalue}
 use Rattle.pv_eval.specs.Operations.{Tests, Accepts, Needs, EndsBody, Puts}
-use Rattle.pv_eval.specs.Machines.{Started, ended}
+use Rattle.pv_eval.specs.Machines.{Started, ended_value}
 use Rattle.pv_eval.proofs.Closed.{Ways, Relation, beside_setting, choice, converted-way, handed-way}
 use Rattle.pv_exec.specs.declared.task.Task.{Task}
 use Rattle.pv_exec.specs.declared.task.Task.TheVariants as task
@@ -23,8 +23,8 @@ use Rattle.pv_exec.specs.Flows.{Flow, Falls, Returns, Below}
 use Rattle.pv_exec.specs.Labels.{target_of}
 use Rattle.pv_exec.specs.Execution.{ex}
 use Rattle.pv_exec.specs.Calls.{below, value_by}
-use Rattle.pv_exec.specs.Parts.{Loop, loop_of, rounds, stepped_on, rounded, tested, line_of_condition, DoLoop, do_of, rounded_do, tested_do, Choice, choice_of, other_side, chosen, Selection, selection_of, selected}
-use Rattle.pv_exec.specs.Tasks.{Reached, Left, Valued, left, statements_from, returned, returned_of, stored_value, stored, declarations_of, within, after_flow, after_value, takes_value, after_task}
+use Rattle.pv_exec.specs.Parts.{Loop, loop_of, rounds, stepped_on, rest_of_loop, loop_from_test, line_of_condition, DoLoop, do_of, rounded_do, tested_do, Choice, choice_of, other_side, branch_of, Selection, selection_of, selection_jump}
+use Rattle.pv_exec.specs.Tasks.{Reached, Left, Valued, left_flow, statements_from, return_with, returned_of, stored_value, rest_of_stores, declarations_of, within, after_flow, after_value, takes_value, after_task}
 use Rattle.pv_exec.specs.Works.{flow_of, does}
 use Rattle.pv_exec.proofs.Executed.{Alike, falling, going, switching, unless-way, end-way, scoped-way, testing-way, stepped-way, round-way, stores-way, ex-closed, exs-closed, exs_at-closed, even-closed}
 use Rattle.pv_exec.proofs.Framed.{left-closed, answered-closed}
@@ -43,7 +43,7 @@ module _ (b : Setting) (n : ℕ) (sides : Option (List Bool)) {R : Relation} (w 
   alike = even-closed b n sides w (stop 0) k
 
   -- how a statement is left is handed on
-  reaching : {m m' : State → Res Flow} → R k k Flow m m' → R k k Reached (λ s. left (m s)) (λ s. left (m' s))
+  reaching : {m m' : State → Res Flow} → R k k Flow m m' → R k k Reached (λ s. left_flow (m s)) (λ s. left_flow (m' s))
   reaching h = w.seq h (λ fl. w.gives (Left fl))
 
   executed : (x : TypedStatement) → R k k Flow (ex b z x) (ex c z' x)
@@ -52,13 +52,13 @@ module _ (b : Setting) (n : ℕ) (sides : Option (List Bool)) {R : Relation} (w 
   rounds-closed : (l : Loop) → R k k Flow (rounds b z l) (rounds c z' l)
   rounds-closed l = w.less (round-way b n sides w k z z' alike l.condition l.step (ex-closed b n sides w k z z' alike l.body) (alike.again l.condition l.step l.body))
 
-  rounded-closed : (l : Loop) (fl : Flow) → R k k Flow (rounded b z l fl) (rounded c z' l fl)
+  rounded-closed : (l : Loop) (fl : Flow) → R k k Flow (rest_of_loop b z l fl) (rest_of_loop c z' l fl)
   rounded-closed l fl = going b n sides w fl (stepped-way b n sides w k z z' alike l.step (alike.again l.condition l.step l.body))
 
   again-closed : (l : Loop) → R k k Flow (stepped_on b z l) (stepped_on c z' l)
   again-closed l = stepped-way b n sides w k z z' alike l.step (alike.again l.condition l.step l.body)
 
-  tested-closed : (l : Loop) (v : Worth) → R k k Flow (tested b z l v) (tested c z' l v)
+  tested-closed : (l : Loop) (v : Worth) → R k k Flow (loop_from_test b z l v) (loop_from_test c z' l v)
   tested-closed l v = w.seq (w.acts (line_of_condition l.condition) (Tests v) tt) (λ v. choice b n sides w (is_true v) (w.seq (executed l.body) (λ fl. rounded-closed l fl)) (w.gives Falls))
 
   rounded-do-closed : (l : Option DoLoop) (fl : Flow) → R k k Flow (rounded_do b z l fl) (rounded_do c z' l fl)
@@ -73,17 +73,17 @@ module _ (b : Setting) (n : ℕ) (sides : Option (List Bool)) {R : Relation} (w 
   other-closed None = w.gives Falls
   other-closed (Some x) = executed x
 
-  chosen-closed : (x : Option Choice) (v : Worth) → R k k Flow (chosen b z x v) (chosen c z' x v)
+  chosen-closed : (x : Option Choice) (v : Worth) → R k k Flow (branch_of b z x v) (branch_of c z' x v)
   chosen-closed None v = w.gives Falls
   chosen-closed (Some x) v = w.seq (w.acts (line_of x.condition) (Tests v) tt) (λ v. choice b n sides w (is_true v) (executed x.body) (other-closed x.other))
 
-  selected-closed : (x : Option Selection) (v : Worth) → R k k Flow (selected b z x v) (selected c z' x v)
+  selected-closed : (x : Option Selection) (v : Worth) → R k k Flow (selection_jump b z x v) (selection_jump c z' x v)
   selected-closed None v = w.gives Falls
   selected-closed (Some x) v =
       w.seq (converted-way b n sides w x.value v) (λ v. w.seq (w.acts (line_of x.value) (Needs v) tt) (λ v.
       unless-way b n sides w (target_of (int_of v) x.block.items) (w.less (w.ticks (w.seq (scoped-way b n sides w x.block.objects (exs_at-closed b n sides w k z z' alike (target_of (int_of v) x.block.items) x.block.items)) (λ fl. switching b n sides w fl))))))
 
-  returned-closed : (line : ℕ) (x : Option TypedTree) (v : Worth) → R k k Flow (returned b line x v) (returned c line x v)
+  returned-closed : (line : ℕ) (x : Option TypedTree) (v : Worth) → R k k Flow (return_with b line x v) (return_with c line x v)
   returned-closed line None v = w.gives Falls
   returned-closed line (Some x) v = w.seq (converted-way b n sides w x v) (λ v. w.seq (w.acts line (Accepts v) tt) (λ v. w.gives (Returns v)))
 
@@ -91,7 +91,7 @@ module _ (b : Setting) (n : ℕ) (sides : Option (List Bool)) {R : Relation} (w 
   value-closed o x (ValueOf e) v = w.seq (handed-way b n sides w e v) (λ v. w.acts x.line (Puts o x.offset (lvalue b x.t) v) (x.t, refl))
   value-closed o x (TextOf l) v = w.gives Nothing
 
-  stored-closed : (o : ℕ) (xs : List Store) (v : Worth) → R k k Flow (stored b z.call o xs v) (stored c z'.call o xs v)
+  stored-closed : (o : ℕ) (xs : List Store) (v : Worth) → R k k Flow (rest_of_stores b z.call o xs v) (rest_of_stores c z'.call o xs v)
   stored-closed o [] v = w.gives Falls
   stored-closed o (x ∷ xs) v = w.seq (w.seq (value-closed o x x.what v) (λ v. stores-way b n sides w k z z' alike o xs)) (λ v. w.gives Falls)
 
@@ -157,4 +157,4 @@ module _ (b : Setting) (n : ℕ) (sides : Option (List Bool)) {R : Relation} (w 
   does-closed es (doing.Left fl) = w.gives (Left (flow_of fl))
   does-closed es (doing.Call f) = w.seq (left-closed b n sides w k z.call z'.call alike.call (stop k) u es) (λ g. w.gives (Valued g.value))
   does-closed es doing.Evaluate = w.seq (left-closed b n sides w k z.call z'.call alike.call (stop k) u es) (λ g. w.gives (Valued g.value))
-  does-closed es doing.Evaluated = w.gives (Valued (ended es))
+  does-closed es doing.Evaluated = w.gives (Valued (ended_value es))

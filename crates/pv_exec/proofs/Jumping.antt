@@ -14,21 +14,21 @@ use Rattle.pv_exec.specs.declared.task.Task.TheVariants as task
 use Rattle.pv_exec.specs.declared.task.Doing.TheVariants as doing
 use Rattle.pv_exec.specs.declared.task.Way.TheVariants as way
 use Rattle.pv_exec.specs.Flows.{Flow, Falls}
-use Rattle.pv_exec.specs.Blocks.{scoped}
+use Rattle.pv_exec.specs.Blocks.{in_block}
 use Rattle.pv_exec.specs.Lists.{make_all}
 use Rattle.pv_exec.specs.Execution.{exs}
 use Rattle.pv_exec.specs.Calls.{below}
-use Rattle.pv_exec.specs.Tasks.{Left, left, statements_from}
+use Rattle.pv_exec.specs.Tasks.{Left, left_flow, statements_from}
 use Rattle.pv_exec.specs.Works.{does}
 use Rattle.pv_exec.specs.Leading.{Leads, LeadsOr}
 use Rattle.pv_exec.proofs.Enters.{scope-leads, scope-stops}
 use Rattle.pv_exec.proofs.Storing.{ticked}
 
-jump-is : (b : Setting) (u : Stored) (k : ℕ) (n : NodeId) (l : ListId) (i : ℕ) (es : List Started) (s s1 : State) → s.taken < b.bound → spend s ≡ s1 → does b u k es (doing.Jump n l i) s ≡ left (scoped b (declared_of (statement_at u n)) (λ s. exs b (below b k) (statements_from u l i) s) s1)
+jump-is : (b : Setting) (u : Stored) (k : ℕ) (n : NodeId) (l : ListId) (i : ℕ) (es : List Started) (s s1 : State) → s.taken < b.bound → spend s ≡ s1 → does b u k es (doing.Jump n l i) s ≡ left_flow (in_block b (declared_of (statement_at u n)) (λ s. exs b (below b k) (statements_from u l i) s) s1)
 unfolding does
 jump-is b u k n l i es s s1 lt e =
-    let body : State → Res Flow = λ s. scoped b (declared_of (statement_at u n)) (λ s. exs b (below b k) (statements_from u l i) s) s in
-    ap left (ticked b s body lt) ∙ ap (λ (q : State). left (body q)) e
+    let body : State → Res Flow = λ s. in_block b (declared_of (statement_at u n)) (λ s. exs b (below b k) (statements_from u l i) s) s in
+    ap left_flow (ticked b s body lt) ∙ ap (λ (q : State). left_flow (body q)) e
 
 pub jump-enters : (b : Setting) (u : Stored) (k : ℕ) (n : NodeId) (l : ListId) (i : ℕ) (old new : List Started) (s s1 s2 : State) → s.taken < b.bound → b.bound < s2.taken + k → spend s ≡ s1 → new ≡ old → Made (make_all b (declared_of (statement_at u n)) s1) (Ok tt) s2 → Leads b u (does b u k old (doing.Jump n l i) s) old (way.With (task.InBlock n) (doing.Statements l i)) new s2
 unfolding does
@@ -45,4 +45,4 @@ jump-stops b u k n l i e old stand new s s1 s2 tu is m =
 -- a body that is not there
 pub absent-is : (b : Setting) (u : Stored) (k : ℕ) (es : List Started) (s s1 : State) → s.taken < b.bound → spend s ≡ s1 → does b u k es doing.Absent s ≡ Gives (Left Falls) s1
 unfolding does
-absent-is b u k es s s1 lt e = ap left (ticked b s (λ s. Gives Falls s) lt) ∙ ap (λ (q : State). Gives (Left Falls) q) e
+absent-is b u k es s s1 lt e = ap left_flow (ticked b s (λ s. Gives Falls s) lt) ∙ ap (λ (q : State). Gives (Left Falls) q) e

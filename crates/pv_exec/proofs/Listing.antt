@@ -20,7 +20,7 @@ use Rattle.pv_exec.specs.Lists.{store_all}
 use Rattle.pv_exec.specs.Execution.{ex, exs}
 use Rattle.pv_exec.specs.Calls.{below}
 use Rattle.pv_exec.specs.Parts.{loop_of, rounds}
-use Rattle.pv_exec.specs.Tasks.{Reached, Left, left, statements_from, declarations_of, within, after_flow, after_task}
+use Rattle.pv_exec.specs.Tasks.{Reached, Left, left_flow, statements_from, declarations_of, within, after_flow, after_task}
 use Rattle.pv_exec.specs.Works.{does}
 use Rattle.pv_exec.specs.Leading.{Leads}
 use Rattle.pv_exec.specs.Items.{declared_in, item_does}
@@ -90,7 +90,7 @@ list-passed b w u l j o s e = ap (λ ys. then_do (nothing_done (store_all b w.ca
 -- where items lead
 pub end-leads : (b : Setting) (u : Stored) (k : ℕ) (l : ListId) (i : ℕ) (old : List Started) (s s' : State) → exs b (below b k) (statements_from u l i) s ≡ item_does b (below b k) u l item.End s' → does b u k old (doing.Statements l i) s ≡ Gives (Left Falls) s'
 unfolding does
-end-leads b u k l i old s s' h = ap left h
+end-leads b u k l i old s s' h = ap left_flow h
 
 pub statement-leads : (b : Setting) (u : Stored) (k : ℕ) (l : ListId) (i j : ℕ) (n : NodeId) (old new : List Started) (s s' : State) → b.bound < s'.taken + k → exs b (below b k) (statements_from u l i) s ≡ item_does b (below b k) u l (item.Statement n j) s' → new ≡ old → Leads b u (does b u k old (doing.Statements l i) s) old (way.With (task.InList l j) (doing.Enter n)) new s'
 unfolding does after_flow
@@ -100,14 +100,14 @@ statement-leads b u k l i j n old new s s' lt h st =
     record {
       waits = k;
       level = k;
-      law = ap left h ∙ lifted m (λ fl s. falls fl (λ s. exs b w (statements_from u l j) s) s) ∙ pushed m (after_task b u k new (task.InList l j));
+      law = ap left_flow h ∙ lifted m (λ fl s. falls fl (λ s. exs b w (statements_from u l j) s) s) ∙ pushed m (after_task b u k new (task.InList l j));
       stands = st;
       room_waits = omega (arith, lt);
       room = omega (arith, lt);
     }
 
 -- after the stores of a declaration the list goes on
-stores-then : (m : Res Worth) (G : State → Res Flow) (A : Reached → State → Res Reached) → ((s : State) → A (Left Falls) s ≡ left (G s)) → left (then_do (nothing_done m) (λ fl s. G s)) ≡ then_do (left (nothing_done m)) A
+stores-then : (m : Res Worth) (G : State → Res Flow) (A : Reached → State → Res Reached) → ((s : State) → A (Left Falls) s ≡ left_flow (G s)) → left_flow (then_do (nothing_done m) (λ fl s. G s)) ≡ then_do (left_flow (nothing_done m)) A
 stores-then (Gives v s) G A h = sym (h s)
 stores-then (Stops y s) G A h = refl
 
@@ -118,7 +118,7 @@ stores-lead b u k l i j o old new s s' lt h st =
     record {
       waits = k;
       level = k;
-      law = ap left h ∙ stores-then (store_all b w.call o (object_at b.unit o).inits s') (λ s. exs b w (statements_from u l j) s) (after_task b u k new (task.InList l j)) (λ s. refl);
+      law = ap left_flow h ∙ stores-then (store_all b w.call o (object_at b.unit o).inits s') (λ s. exs b w (statements_from u l j) s) (after_task b u k new (task.InList l j)) (λ s. refl);
       stands = st;
       room_waits = omega (arith, lt);
       room = omega (arith, lt);
@@ -134,7 +134,7 @@ within-leads b u k n l es s lt e =
     record {
       waits = k;
       level = k;
-      law = ap (λ q. left (within b w q (loop_of (statement_at u n)) s)) e ∙ lifted m (λ fl s. falls fl r s) ∙ pushed m (after_task b u k es (task.Declared n));
+      law = ap (λ q. left_flow (within b w q (loop_of (statement_at u n)) s)) e ∙ lifted m (λ fl s. falls fl r s) ∙ pushed m (after_task b u k es (task.Declared n));
       stands = refl;
       room_waits = omega (arith, lt);
       room = omega (arith, lt);
@@ -142,4 +142,4 @@ within-leads b u k n l es s lt e =
 
 pub no-within : (b : Setting) (u : Stored) (k : ℕ) (n : NodeId) (es : List Started) (s : State) → declarations_of (statement_at u n) ≡ None → does b u k es (doing.Within n) s ≡ Gives (Left Falls) s
 unfolding does
-no-within b u k n es s e = ap (λ q. left (within b (below b k) q (loop_of (statement_at u n)) s)) e
+no-within b u k n es s e = ap (λ q. left_flow (within b (below b k) q (loop_of (statement_at u n)) s)) e

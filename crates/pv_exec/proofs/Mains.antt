@@ -6,7 +6,7 @@ use Rattle.std.proofs.lemmas.List.{length-map}
 use Rattle.std.specs.declared.option.Option.{Option}
 use Rattle.pv_typed.specs.TypedUnits.{WholeUnit, TypedFunction, function_at}
 use Rattle.pv_typed.specs.Mains.{named_main, first_main, main_of}
-use Rattle.pv_typed.specs.Tables.{Stored, whole, nodes, function_in}
+use Rattle.pv_typed.specs.Tables.{Stored, whole_unit, nodes, function_in}
 use Rattle.pv_world.specs.Worlds.{Worth, Nothing}
 use Rattle.pv_eval.specs.declared.failure.Failure.{Failure}
 use Rattle.pv_eval.specs.declared.failure.Failure.TheVariants as failure
@@ -23,10 +23,10 @@ use Rattle.pv_exec.specs.declared.running.Broken.TheVariants as broken
 use Rattle.pv_exec.specs.Flows as execution
 use Rattle.pv_exec.specs.Blocks.{end_all}
 use Rattle.pv_exec.specs.Calls.{below, take_params, runs_body, call_body, value_by}
-use Rattle.pv_exec.specs.Called.{begun, BodyIs}
+use Rattle.pv_exec.specs.Called.{body_beginning, BodyIs}
 use Rattle.pv_exec.specs.Preparing.{prepare}
 use Rattle.pv_exec.specs.Run.{call_main}
-use Rattle.pv_exec.specs.Tasks.{Reached, Left, Valued, left}
+use Rattle.pv_exec.specs.Tasks.{Reached, Left, Valued, left_flow}
 use Rattle.pv_exec.specs.Works.{flow_of, does, Holds}
 use Rattle.pv_exec.specs.Fits.{Runs}
 use Rattle.pv_exec.specs.Running.{EndedIs, ends_call, main_called, whole_run}
@@ -42,7 +42,7 @@ unleft (Gives (Left fl) s) = Gives fl s
 unleft (Gives (Valued v) s) = Stops Turns s
 unleft (Stops y s) = Stops y s
 
-unleft-left : (m : Res execution.Flow) → unleft (left m) ≡ m
+unleft-left : (m : Res execution.Flow) → unleft (left_flow m) ≡ m
 unleft-left (Gives fl s) = refl
 unleft-left (Stops y s) = refl
 
@@ -51,7 +51,7 @@ is_valued (Gives (Left fl) s) = false
 is_valued (Gives (Valued v) s) = true
 is_valued (Stops y s) = false
 
-never-valued : (m : Res execution.Flow) → is_valued (left m) ≡ false
+never-valued : (m : Res execution.Flow) → is_valued (left_flow m) ≡ false
 never-valued (Gives fl s) = refl
 never-valued (Stops y s) = refl
 
@@ -72,7 +72,7 @@ or_zero d None = d
 or_zero d (Some n) = n
 
 -- the body of `main` begins
-pub holds-first : (b : Setting) (u : Stored) (f : ℕ) (d : Doing) (es : List Started) (s : State) → b.unit ≡ whole u → BodyIs u f d → es ≡ [] → s.taken ≡ 0 → Holds b u (left (runs_body b (below b b.bound) (function_at b.unit f).body s)) [] es d s
+pub holds-first : (b : Setting) (u : Stored) (f : ℕ) (d : Doing) (es : List Started) (s : State) → b.unit ≡ whole_unit u → BodyIs u f d → es ≡ [] → s.taken ≡ 0 → Holds b u (left_flow (runs_body b (below b b.bound) (function_at b.unit f).body s)) [] es d s
 holds-first b u f d es s is body none fresh =
     let m = does b u b.bound es d s in
     let one = body.counts es in
@@ -101,11 +101,11 @@ left-grows b f line fl s =
     (λ x s. seq-grows s (act b line EndsBody s) (λ x s. Gives v s) (acted-grows b line (operates b EndsBody s.world) s) (λ x s. grew-refl s.taken s (omega arith)))
 
 -- what has left a run that could not go on is a first part of all
-begins-then : (out : List ℕ) (es : List Marked) (m : Res execution.Flow) (K : execution.Flow → State → Res Worth) → ((fl : execution.Flow) → Growing Worth (K fl)) → Begins out es (end_of (left m)) → Begins out es (end_of (then_do m K))
+begins-then : (out : List ℕ) (es : List Marked) (m : Res execution.Flow) (K : execution.Flow → State → Res Worth) → ((fl : execution.Flow) → Growing Worth (K fl)) → Begins out es (end_of (left_flow m)) → Begins out es (end_of (then_do m K))
 begins-then out es (Gives fl s) K g h = begins-later out es s (end_of (K fl s)) h (g fl s)
 begins-then out es (Stops y s) K g h = h
 
-pub main-lost : (b : Setting) (f line : ℕ) (m : Res execution.Flow) (r : Res Worth) (out : List ℕ) (es : List Marked) → r ≡ then_do m (left_by b f line) → Begins out es (end_of (left m)) → Begins out es (end_of r)
+pub main-lost : (b : Setting) (f line : ℕ) (m : Res execution.Flow) (r : Res Worth) (out : List ℕ) (es : List Marked) → r ≡ then_do m (left_by b f line) → Begins out es (end_of (left_flow m)) → Begins out es (end_of r)
 main-lost b f line m r out es e h = subst (λ (z : Res Worth). Begins out es (end_of z)) (sym e) (begins-then out es m (left_by b f line) (left-grows b f line) h)
 
 -- the parameters could not end
@@ -113,22 +113,22 @@ pub end-lost : (b : Setting) (f line : ℕ) (fl : Flow) (m : Moment) (out : List
 end-lost b f line fl m out es = begins-all out es m (end_of (ends_call b f line fl (state_of m out es))) (left-grows b f line (flow_of fl) (state_of m out es))
 
 -- a call, with what begins it
-pub main-split : (b : Setting) (f line : ℕ) (s : State) → call_body b (below b b.bound) (function_at b.unit f) [] line s ≡ then_do (begun b line (function_at b.unit f) [] s) (λ x s. then_do (runs_body b (below b b.bound) (function_at b.unit f).body s) (left_by b f line))
+pub main-split : (b : Setting) (f line : ℕ) (s : State) → call_body b (below b b.bound) (function_at b.unit f) [] line s ≡ then_do (body_beginning b line (function_at b.unit f) [] s) (λ x s. then_do (runs_body b (below b b.bound) (function_at b.unit f).body s) (left_by b f line))
 main-split b f line s =
     let F = function_at b.unit f in
     then-then (act b line BeginsBody s) (λ x s. take_params b line F.params [] s) (λ x s. then_do (runs_body b (below b b.bound) F.body s) (left_by b f line))
 
 -- as the code begins it
-begun-here : (b : Setting) (u : Stored) (f line : ℕ) (s : State) → b.unit ≡ whole u → line ≡ (function_at b.unit f).line → begun b (function_at b.unit f).line (function_at b.unit f) [] s ≡ begun b line (function_at (whole u) f) [] s
+begun-here : (b : Setting) (u : Stored) (f line : ℕ) (s : State) → b.unit ≡ whole_unit u → line ≡ (function_at b.unit f).line → body_beginning b (function_at b.unit f).line (function_at b.unit f) [] s ≡ body_beginning b line (function_at (whole_unit u) f) [] s
 begun-here b u f line s is l =
-    ap (λ (n : ℕ). begun b n (function_at b.unit f) [] s) (sym l) ∙ ap (λ (q : WholeUnit). begun b line (function_at q f) [] s) is
+    ap (λ (n : ℕ). body_beginning b n (function_at b.unit f) [] s) (sym l) ∙ ap (λ (q : WholeUnit). body_beginning b line (function_at q f) [] s) is
 
-pub main-begins : (b : Setting) (u : Stored) (f line : ℕ) (s s1 : State) → b.unit ≡ whole u → line ≡ (function_at b.unit f).line → begun b line (function_at (whole u) f) [] s ≡ Gives Nothing s1 → call_body b (below b b.bound) (function_at b.unit f) [] (function_at b.unit f).line s ≡ then_do (runs_body b (below b b.bound) (function_at b.unit f).body s1) (left_by b f (function_at b.unit f).line)
+pub main-begins : (b : Setting) (u : Stored) (f line : ℕ) (s s1 : State) → b.unit ≡ whole_unit u → line ≡ (function_at b.unit f).line → body_beginning b line (function_at (whole_unit u) f) [] s ≡ Gives Nothing s1 → call_body b (below b b.bound) (function_at b.unit f) [] (function_at b.unit f).line s ≡ then_do (runs_body b (below b b.bound) (function_at b.unit f).body s1) (left_by b f (function_at b.unit f).line)
 main-begins b u f line s s1 is l h =
     let F = function_at b.unit f in
     main-split b f F.line s ∙ ap (λ (r : Res Worth). then_do r (λ x s. then_do (runs_body b (below b b.bound) F.body s) (left_by b f F.line))) (begun-here b u f line s is l ∙ h)
 
-pub main-not-begun : (b : Setting) (u : Stored) (f line : ℕ) (m m1 : Moment) (out : List ℕ) (es : List Marked) (e : Failure) → b.unit ≡ whole u → line ≡ (function_at b.unit f).line → Made (begun b line (function_at (whole u) f) [] (state_of m out es)) (Err e) (state_of m1 out es) → EndedIs (main_called f b (state_of m out es)) (Err (broken.Operation e)) m1 out es
+pub main-not-begun : (b : Setting) (u : Stored) (f line : ℕ) (m m1 : Moment) (out : List ℕ) (es : List Marked) (e : Failure) → b.unit ≡ whole_unit u → line ≡ (function_at b.unit f).line → Made (body_beginning b line (function_at (whole_unit u) f) [] (state_of m out es)) (Err e) (state_of m1 out es) → EndedIs (main_called f b (state_of m out es)) (Err (broken.Operation e)) m1 out es
 main-not-begun b u f line m m1 out es failure.NoMemory is l h = begins-all out es m (end_of (main_called f b (state_of m out es))) (main-grows b f (state_of m out es))
 main-not-begun b u f line m m1 out es (failure.Stop y n) is l h =
     let F = function_at b.unit f in
@@ -136,14 +136,14 @@ main-not-begun b u f line m m1 out es (failure.Stop y n) is l h =
     main-split b f F.line s ∙ ap (λ (r : Res Worth). then_do r (λ x s. then_do (runs_body b (below b b.bound) F.body s) (left_by b f F.line))) (begun-here b u f line s is l ∙ h)
 
 -- how it is left
-pub main-left : (b : Setting) (f line : ℕ) (fl : Flow) (m : Res execution.Flow) (s2 : State) (r : Res Worth) → r ≡ then_do m (left_by b f line) → left m ≡ Gives (Left (flow_of fl)) s2 → r ≡ ends_call b f line fl s2
+pub main-left : (b : Setting) (f line : ℕ) (fl : Flow) (m : Res execution.Flow) (s2 : State) (r : Res Worth) → r ≡ then_do m (left_by b f line) → left_flow m ≡ Gives (Left (flow_of fl)) s2 → r ≡ ends_call b f line fl s2
 main-left b f line fl m s2 r e h = e ∙ ap (λ (z : Res execution.Flow). then_do z (left_by b f line)) (sym (unleft-left m) ∙ ap unleft h)
 
 -- how it ends the run
-pub main-stops : (m : Res execution.Flow) (K : execution.Flow → State → Res Worth) (y : Why) (s : State) (r : Res Worth) → r ≡ then_do m K → left m ≡ Stops y s → r ≡ Stops y s
+pub main-stops : (m : Res execution.Flow) (K : execution.Flow → State → Res Worth) (y : Why) (s : State) (r : Res Worth) → r ≡ then_do m K → left_flow m ≡ Stops y s → r ≡ Stops y s
 main-stops m K y s r e h = e ∙ ap (λ (z : Res execution.Flow). then_do z K) (sym (unleft-left m) ∙ ap unleft h)
 
-pub main-valued : {A : Type 0} (m : Res execution.Flow) (v : Worth) (s : State) → left m ≡ Gives (Valued v) s → A
+pub main-valued : {A : Type 0} (m : Res execution.Flow) (v : Worth) (s : State) → left_flow m ≡ Gives (Valued v) s → A
 main-valued {A} m v s h = let e : true ≡ false = sym (ap is_valued h) ∙ never-valued m in absurd (cc)
 
 -- `main` is there
@@ -159,11 +159,11 @@ pub main-there : (names : List (List ℕ)) (fs : List TypedFunction) (f : ℕ) �
 main-there names [] f e = absurd (cc)
 main-there names (g ∷ fs) f e = let l = one-there (named_main names g.name) (first_main names fs) (length fs) f (λ n w. main-there names fs n w) e in omega (arith, l)
 
-pub main-in : (u : Stored) (f : ℕ) → main_of (whole u) ≡ Some f → f < length u.functions
-main-in u f e = let l = main-there (whole u).names (whole u).functions f e in omega (arith, l, length-map u.functions (function_in u.known (nodes u)))
+pub main-in : (u : Stored) (f : ℕ) → main_of (whole_unit u) ≡ Some f → f < length u.functions
+main-in u f e = let l = main-there (whole_unit u).names (whole_unit u).functions f e in omega (arith, l, length-map u.functions (function_in u.known (nodes u)))
 
 -- a unit with `main` has a function
-pub some-function : (u : Stored) (o : Option ℕ) → main_of (whole u) ≡ o → IsTrue (is_some o) → 0 < length u.functions
+pub some-function : (u : Stored) (o : Option ℕ) → main_of (whole_unit u) ≡ o → IsTrue (is_some o) → 0 < length u.functions
 some-function u None e h = absurd cc
 some-function u (Some f) e h = let l = main-in u f e in omega (arith, l)
 

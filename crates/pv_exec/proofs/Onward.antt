@@ -15,7 +15,7 @@ use Rattle.pv_exec.specs.declared.task.Way.TheVariants as way
 use Rattle.pv_exec.specs.Flows.{Flow, Falls}
 use Rattle.pv_exec.specs.Calls.{below}
 use Rattle.pv_exec.specs.Parts.{loop_of, rounds}
-use Rattle.pv_exec.specs.Tasks.{Reached, left, after_flow}
+use Rattle.pv_exec.specs.Tasks.{Reached, left_flow, after_flow}
 use Rattle.pv_exec.specs.Works.{does, due, others}
 use Rattle.pv_exec.specs.Leading.{Leads, LeadsOr}
 use Rattle.pv_exec.specs.Quickness.{Quick, QuickOr, Ends, EndsOr}
@@ -53,6 +53,6 @@ leads-then b u all stand es fs d r s s' l h =
     subst (λ (m : Res Reached). LeadsOr b u m stand r fs s') (sym l.law)
     (subst (λ (xs : List Started). LeadsOr b u (does b u l.level es d s) xs r fs s') l.stands (h l.level l.room))
 
-pub declared-goes : (b : Setting) (u : Stored) (k : ℕ) (n : NodeId) (fl : Flow) (es : List Started) (s : State) → fl ≡ Falls → after_flow b u k es (task.Declared n) fl s ≡ left (rounds b (below b k) (loop_of (statement_at u n)) s)
+pub declared-goes : (b : Setting) (u : Stored) (k : ℕ) (n : NodeId) (fl : Flow) (es : List Started) (s : State) → fl ≡ Falls → after_flow b u k es (task.Declared n) fl s ≡ left_flow (rounds b (below b k) (loop_of (statement_at u n)) s)
 unfolding after_flow
 declared-goes b u k n fl es s e = ap (λ x. after_flow b u k es (task.Declared n) x s) e

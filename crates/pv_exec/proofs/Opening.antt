@@ -17,10 +17,10 @@ use Rattle.pv_eval.specs.Moments.{Moment, state_of}
 use Rattle.pv_eval.specs.Machines.{Machine, Started}
 use Rattle.pv_exec.specs.declared.task.Task.{Task}
 use Rattle.pv_exec.specs.declared.task.Doing.TheVariants as doing
-use Rattle.pv_exec.specs.Entering.{entered, is_labelled}
+use Rattle.pv_exec.specs.Entering.{behind_turn, is_labelled}
 use Rattle.pv_exec.specs.Execution.{exs}
 use Rattle.pv_exec.specs.Parts.{Items, items_of}
-use Rattle.pv_exec.specs.Tasks.{Reached, left}
+use Rattle.pv_exec.specs.Tasks.{Reached, left_flow}
 use Rattle.pv_exec.specs.Calls.{below}
 use Rattle.pv_exec.specs.Works.{does, after_work, Standing}
 use Rattle.pv_exec.specs.Turning.{AtOnceLed}
@@ -65,10 +65,10 @@ module _ (u : Stored) (n : NodeId) (l : ListId) (ts : List Task) (old new : Mach
       let t = statement_at u n in
       let xs = statements_in (nodes u) (list_at u l) in
       let is : t ≡ Block (statement_line t) (declared_of t) xs = block-form t (record { objects = declared_of t; items = xs }) form in
-      ap left (turned b w t s (ap is_labelled is))
-      ∙ ap (λ (q : Bool). left (if q then entered b w t (spend s) else Stops Turns s)) (lt-ltb s.taken b.bound room)
-      ∙ ap (λ (z : TypedStatement). left (entered b w z (spend s))) (is ∙ ap (λ (os : List ℕ). Block (statement_line t) os xs) none)
-      ∙ ap left (given-again (exs b w xs (spend s)))
+      ap left_flow (turned b w t s (ap is_labelled is))
+      ∙ ap (λ (q : Bool). left_flow (if q then behind_turn b w t (spend s) else Stops Turns s)) (lt-ltb s.taken b.bound room)
+      ∙ ap (λ (z : TypedStatement). left_flow (behind_turn b w z (spend s))) (is ∙ ap (λ (os : List ℕ). Block (statement_line t) os xs) none)
+      ∙ ap left_flow (given-again (exs b w xs (spend s)))
 
   pub block-led : new.moment ≡ record old.moment { taken = old.moment.taken + 1 } → new.started ≡ old.started → AtOnceLed u (doing.Enter n) (doing.Statements l 0) ts old new
   block-led moment same = λ b out es hs hl all q g.

@@ -30,7 +30,7 @@ use Rattle.pv_exec.specs.Outlets.{Outlet, IsNear, event_of}
 use Rattle.pv_exec.specs.Words.{FitsWords}
 use Rattle.pv_exec.specs.Laws.{run_at, IsUpto}
 use Rattle.pv_exec.specs.Stages.{stage_of, IsBehind, IsStaged, StandsLast, StandsOr}
-use Rattle.pv_exec.specs.Running.{EndedIs, PieceLed, PieceCut, failed, whole_run}
+use Rattle.pv_exec.specs.Running.{EndedIs, PieceLed, PieceCut, failure_of, whole_run}
 use Rattle.pv_exec.specs.Ending.{outcome_by}
 use Rattle.pv_exec.specs.declared.program.Ran.{Ran}
 use Rattle.pv_exec.specs.declared.program.RunError.{RunError}
@@ -155,7 +155,7 @@ run-over u n sides zap script old new x is led =
     subst (λ (s : State). EndedIs (whole_run b s) x new.moment led.bytes led.events) (ap (λ (m : Machine). state_of m.moment [] []) is) (led.led b [] [] set follows refl)
 
 -- a run with an outcome was not lost
-pub streams-over : (x : Result Ended Broken) (o : Outcome) (a b : Outlet) (names : List (List ℕ)) (out : List ℕ) (es : List Marked) → outcome_by x ≡ Some o → Streams (failed x) a b names out es → Streams None a b names out es
+pub streams-over : (x : Result Ended Broken) (o : Outcome) (a b : Outlet) (names : List (List ℕ)) (out : List ℕ) (es : List Marked) → outcome_by x ≡ Some o → Streams (failure_of x) a b names out es → Streams None a b names out es
 streams-over (Ok x) o a b names out es e h = h
 streams-over (Err (broken.Operation (failure.Stop y line))) o a b names out es e h = h
 streams-over (Err (broken.Operation failure.NoMemory)) o a b names out es e h = absurd (cc)
@@ -236,10 +236,10 @@ lost-begins R (Err (broken.Operation (failure.Stop y line))) m out es h = begins
 lost-begins R (Err (broken.Operation failure.NoMemory)) m out es h = h
 lost-begins R (Err (broken.Delivery e)) m out es h = h
 
-pub lost-part : (R : Res Worth) (x : Result Ended Broken) (m : Moment) (out : List ℕ) (es : List Marked) (names : List (List ℕ)) (a b : Outlet) → EndedIs R x m out es → Streams (failed x) a b names out es → GainsPrefix a.sink b.sink (end_of R).output
+pub lost-part : (R : Res Worth) (x : Result Ended Broken) (m : Moment) (out : List ℕ) (es : List Marked) (names : List (List ℕ)) (a b : Outlet) → EndedIs R x m out es → Streams (failure_of x) a b names out es → GainsPrefix a.sink b.sink (end_of R).output
 lost-part R x m out es names a b h k = let q = lost-begins R x m out es h in record { part = out; rest = q.unwritten; whole = q.output; gains = k.gains }
 
-lost-told-by : (R : Res Worth) (x : Result Ended Broken) (out : List ℕ) (es : List Marked) (names : List (List ℕ)) (a b : Outlet) → Begins out es (end_of R) → Streams (failed x) a b names out es → ToldOr (lost x) a b (end_of R) names
+lost-told-by : (R : Res Worth) (x : Result Ended Broken) (out : List ℕ) (es : List Marked) (names : List (List ℕ)) (a b : Outlet) → Begins out es (end_of R) → Streams (failure_of x) a b names out es → ToldOr (lost x) a b (end_of R) names
 lost-told-by R (Ok x) out es names a b q k = tt
 lost-told-by R (Err (broken.Operation e)) out es names a b q k = tt
 lost-told-by R (Err (broken.Delivery undelivered.NoMemory)) out es names a b q k = tt
@@ -256,7 +256,7 @@ lost-told-by R (Err (broken.Delivery undelivered.WriteFault)) out es names a b q
   words = k.words;
 }
 
-pub lost-told : (R : Res Worth) (x : Result Ended Broken) (m : Moment) (out : List ℕ) (es : List Marked) (names : List (List ℕ)) (a b : Outlet) → EndedIs R x m out es → Streams (failed x) a b names out es → ToldOr (lost x) a b (end_of R) names
+pub lost-told : (R : Res Worth) (x : Result Ended Broken) (m : Moment) (out : List ℕ) (es : List Marked) (names : List (List ℕ)) (a b : Outlet) → EndedIs R x m out es → Streams (failure_of x) a b names out es → ToldOr (lost x) a b (end_of R) names
 lost-told R x m out es names a b h k = lost-told-by R x out es names a b (lost-begins R x m out es h) k
 
 -- the stages of the run
@@ -275,7 +275,7 @@ staged-run u n sides zap script old is = record {
   behind = behind-stage u sides zap script;
 }
 
-pub run-stands : {o o' : Outlet} (u : Stored) (n : ℕ) (sides : Option (List Bool)) (zap : Bool) (script : List ScriptLine) (old new : Machine) (x : Result Ended Broken) → old ≡ first_machine script sides zap → (led : PieceLed u o o' n whole_run x old new) → StandsOr (failed x) (stage_of u sides zap script) new.moment.taken led.bytes led.events
+pub run-stands : {o o' : Outlet} (u : Stored) (n : ℕ) (sides : Option (List Bool)) (zap : Bool) (script : List ScriptLine) (old new : Machine) (x : Result Ended Broken) → old ≡ first_machine script sides zap → (led : PieceLed u o o' n whole_run x old new) → StandsOr (failure_of x) (stage_of u sides zap script) new.moment.taken led.bytes led.events
 run-stands u n sides zap script old new x is led =
     let b = setting_of u n sides zap in
     let set : IsSetting b u old.moment = record { unit = refl; types = refl; sides = sym (ap (λ (m : Machine). m.moment.sides) is) } in
@@ -283,7 +283,7 @@ run-stands u n sides zap script old new x is led =
     led.stands b (stage_of u sides zap script) set follows (staged-run u n sides zap script old is)
 
 -- a run with an outcome took all its turns
-pub stands-over : (x : Result Ended Broken) (o : Outcome) (stage : ℕ → State) (k : ℕ) (out : List ℕ) (es : List Marked) → outcome_by x ≡ Some o → StandsOr (failed x) stage k out es → StandsLast stage k out es
+pub stands-over : (x : Result Ended Broken) (o : Outcome) (stage : ℕ → State) (k : ℕ) (out : List ℕ) (es : List Marked) → outcome_by x ≡ Some o → StandsOr (failure_of x) stage k out es → StandsLast stage k out es
 stands-over (Ok x) o stage k out es e h = h
 stands-over (Err (broken.Operation (failure.Stop y line))) o stage k out es e h = h
 stands-over (Err (broken.Operation failure.NoMemory)) o stage k out es e h = absurd (cc)
@@ -302,7 +302,7 @@ streamed-end R o m out es names (Err error.WriteFault) stage a b c v s h p k = r
 streamed-end R o m out es names (Err error.NoMemory) stage a b c v s h p k = tt
 
 -- where it went no further
-pub streamed-lost : (R : Res Worth) (x : Result Ended Broken) (k : ℕ) (out : List ℕ) (es : List Marked) (names : List (List ℕ)) (stage : ℕ → State) (a b : Outlet) → StandsOr (failed x) stage k out es → Streams (failed x) a b names out es → StreamedOr (lost x) a b stage (end_of R).taken names
+pub streamed-lost : (R : Res Worth) (x : Result Ended Broken) (k : ℕ) (out : List ℕ) (es : List Marked) (names : List (List ℕ)) (stage : ℕ → State) (a b : Outlet) → StandsOr (failure_of x) stage k out es → Streams (failure_of x) a b names out es → StreamedOr (lost x) a b stage (end_of R).taken names
 streamed-lost R (Ok x) k out es names stage a b s h = tt
 streamed-lost R (Err (broken.Operation e)) k out es names stage a b s h = tt
 streamed-lost R (Err (broken.Delivery undelivered.NoMemory)) k out es names stage a b s h = tt

@@ -13,7 +13,7 @@ use Rattle.pv_eval.specs.TypeForms.{lvalue}
 use Rattle.pv_eval.specs.Operations.{Makes, Puts, BeginsBody, act}
 use Rattle.pv_eval.specs.Moments.{Made}
 use Rattle.pv_exec.specs.Calls.{take_params}
-use Rattle.pv_exec.specs.Called.{takes_one, begun}
+use Rattle.pv_exec.specs.Called.{takes_one, body_beginning}
 use Rattle.pv_exec.proofs.Pieces.{made-stops, made-is, then-then}
 use Rattle.pv_exec.proofs.Inits.{mapped-at}
 
@@ -51,9 +51,9 @@ pub no-arguments : (b : Setting) (line : ℕ) (ps : List ℕ) (vs : List Worth) 
 no-arguments b line ps vs s e = ap (λ xs. take_params b line ps xs s) e ∙ no-values b line ps s
 
 -- what comes before the body
-pub begun-by : (b : Setting) (line : ℕ) (f : TypedFunction) (vs : List Worth) (r : Result (Unit {0}) Failure) (s s1 s2 : State) → act b line BeginsBody s ≡ Gives Nothing s1 → Made (take_params b line f.params vs s1) r s2 → Made (begun b line f vs s) r s2
+pub begun-by : (b : Setting) (line : ℕ) (f : TypedFunction) (vs : List Worth) (r : Result (Unit {0}) Failure) (s s1 s2 : State) → act b line BeginsBody s ≡ Gives Nothing s1 → Made (take_params b line f.params vs s1) r s2 → Made (body_beginning b line f vs s) r s2
 begun-by b line f vs r s s1 s2 h m =
-    made-is (take_params b line f.params vs s1) (begun b line f vs s) r s2 (ap (λ (q : Res Worth). then_do q (λ x s. take_params b line f.params vs s)) h) m
+    made-is (take_params b line f.params vs s1) (body_beginning b line f vs s) r s2 (ap (λ (q : Res Worth). then_do q (λ x s. take_params b line f.params vs s)) h) m
 
 pub argument-at : (args : List Got) (i : ℕ) (g : Got) → i < length args → g ≡ get_or args i g → drop i (map worth_of args) ≡ worth_of g ∷ drop (i + 1) (map worth_of args)
 argument-at args i g lt is =

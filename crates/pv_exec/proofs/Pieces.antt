@@ -12,18 +12,18 @@ use Rattle.std.specs.Prelude.{ℤ, false, List, length, Result, Ok, Err, is_err}
 use Rattle.pv_typed.specs.Tables.{Stored}
 use Rattle.pv_eval.specs.declared.failure.Failure.{Failure}
 use Rattle.pv_eval.specs.declared.failure.Failure.TheVariants as failure
-use Rattle.pv_exec.specs.Tasks.{Reached, Left, left}
-use Rattle.pv_exec.specs.Entering.{entered, is_labelled}
+use Rattle.pv_exec.specs.Tasks.{Reached, Left, left_flow}
+use Rattle.pv_exec.specs.Entering.{behind_turn, is_labelled}
 
-pub lifted : {A : Type 0} (m : Res A) (G : A → State → Res Flow) → left (then_do m G) ≡ then_do m (λ a s. left (G a s))
+pub lifted : {A : Type 0} (m : Res A) (G : A → State → Res Flow) → left_flow (then_do m G) ≡ then_do m (λ a s. left_flow (G a s))
 lifted (Gives a s) G = refl
 lifted (Stops y s) G = refl
 
-pub lifted-twice : {A B : Type 0} (m : Res A) (F : A → State → Res B) (G : B → State → Res Flow) → left (then_do (then_do m F) G) ≡ then_do m (λ a s. left (then_do (F a s) G))
+pub lifted-twice : {A B : Type 0} (m : Res A) (F : A → State → Res B) (G : B → State → Res Flow) → left_flow (then_do (then_do m F) G) ≡ then_do m (λ a s. left_flow (then_do (F a s) G))
 lifted-twice (Gives a s) F G = refl
 lifted-twice (Stops y s) F G = refl
 
-pub pushed : (m : Res Flow) (A : Reached → State → Res Reached) → then_do m (λ fl s. A (Left fl) s) ≡ then_do (left m) A
+pub pushed : (m : Res Flow) (A : Reached → State → Res Reached) → then_do m (λ fl s. A (Left fl) s) ≡ then_do (left_flow m) A
 pushed (Gives a s) A = refl
 pushed (Stops y s) A = refl
 
@@ -32,7 +32,7 @@ then-then (Gives a s) f g = refl
 then-then (Stops y s) f g = refl
 
 -- every statement that is not labelled takes a turn first
-pub turned : (b : Setting) (w : Below) (x : TypedStatement) (s : State) → is_labelled x ≡ false → ex b w x s ≡ tick b s (entered b w x)
+pub turned : (b : Setting) (w : Below) (x : TypedStatement) (s : State) → is_labelled x ≡ false → ex b w x s ≡ tick b s (behind_turn b w x)
 unfolding ex
 turned b w (Block line os xs) s e = refl
 turned b w (Declare line o) s e = refl

@@ -23,10 +23,10 @@ use Rattle.pv_exec.specs.declared.task.Task.{Task}
 use Rattle.pv_exec.specs.declared.task.Task.TheVariants as task
 use Rattle.pv_exec.specs.declared.task.Doing.{Doing}
 use Rattle.pv_exec.specs.declared.task.Doing.TheVariants as doing
-use Rattle.pv_exec.specs.Flows.{full}
+use Rattle.pv_exec.specs.Flows.{full_expression}
 use Rattle.pv_exec.specs.Parts.{Loop, loop_of, line_of_condition}
 use Rattle.pv_exec.specs.Read.{IsRound, IsStep, round_side}
-use Rattle.pv_exec.specs.Tasks.{Reached, left, after_value}
+use Rattle.pv_exec.specs.Tasks.{Reached, left_flow, after_value}
 use Rattle.pv_exec.specs.Calls.{below}
 use Rattle.pv_exec.specs.Works.{does, due, others, after_work, Work, Standing}
 use Rattle.pv_exec.specs.Fits.{DoingFits}
@@ -74,7 +74,7 @@ value-stops r go s h = ap (λ (m : Res Given). then_do (then_do m (λ g s. Gives
 
 -- the last expression
 module _ (u : Stored) (x : NodeId) (p : RoundParts) (v : Worth) (ts : List Task) (old new : Machine) (form : (loop_of (statement_at u p.statement)).step ≡ Some (expression_at u x)) where
-  again-is : (b : Setting) (k : ℕ) (es : List Started) (s : State) → does b u k es (doing.Again x p) s ≡ then_do (full b (below b k).call (expression_at u x) s) (after_value b u k (task.Stepped p.statement))
+  again-is : (b : Setting) (k : ℕ) (es : List Started) (s : State) → does b u k es (doing.Again x p) s ≡ then_do (full_expression b (below b k).call (expression_at u x) s) (after_value b u k (task.Stepped p.statement))
   unfolding does
   again-is b k es s = step-some b u k p.statement x s form
 
@@ -123,14 +123,14 @@ module _ (u : Stored) (p : RoundParts) (t : Bool) (ts : List Task) (old new : Ma
   abbrev line : ℕ
   line = line_of_condition (loop_of (statement_at u p.statement)).condition
 
-  round-enters : (b : Setting) (k : ℕ) (es : List Started) (s : State) → does b u (suc k) es (doing.Round p) s ≡ then_do (full b (below b k).call (expression_at u p.condition) s) (after_value b u k (task.Tested p.statement))
+  round-enters : (b : Setting) (k : ℕ) (es : List Started) (s : State) → does b u (suc k) es (doing.Round p) s ≡ then_do (full_expression b (below b k).call (expression_at u p.condition) s) (after_value b u k (task.Tested p.statement))
   unfolding does below
   round-enters b k es s = round-condition b u k p.statement p.condition s form
 
   side-is : (b : Setting) (k : ℕ) (es : List Started) (v : Worth) (s : State) (q : Bool) → act b line (Tests v) s ≡ Gives (truth_int q) s → after_value b u k (task.Tested p.statement) v s ≡ does b u k es (round_side p q) s
   unfolding does after_value
-  side-is b k es v s true h = ap left (tested-is b (below b k) (loop_of (statement_at u p.statement)) line v s _ refl h)
-  side-is b k es v s false h = ap left (tested-is b (below b k) (loop_of (statement_at u p.statement)) line v s _ refl h)
+  side-is b k es v s true h = ap left_flow (tested-is b (below b k) (loop_of (statement_at u p.statement)) line v s _ refl h)
+  side-is b k es v s false h = ap left_flow (tested-is b (below b k) (loop_of (statement_at u p.statement)) line v s _ refl h)
 
   comes-to : (b : Setting) (k : ℕ) (s s' : State) (v : Worth) → b.bound < s.taken + k + 0 → s'.taken ≤ b.bound → s.taken < s'.taken
       → ((j : ℕ) → GivesValue (ev b (below b j).call (expression_at u p.condition) [] s) v s') → act b line (Tests v) s' ≡ Gives (truth_int t) s' → Lower b u p t old.started new.started k s s'

@@ -2,7 +2,7 @@
 use Rattle.std.proofs.Common.{◌≡◌, ℕ, ◌+◌, ◌<◌, List, [], ◌∷◌, refl, sym, ap, ◌∙◌, subst, arith, true}
 use Rattle.std.specs.Prelude.{Bool, Result, Ok, Err, if◌then◌else◌}
 use Rattle.pv_typed.specs.Tables.{Stored}
-use Rattle.pv_eval.specs.Machines.{left_of, answered_of, given_by, ended, is_due, due_turns, after_first, asked_arguments, asked_line}
+use Rattle.pv_eval.specs.Machines.{left_of, answered_of, given_by, ended_value, is_due, due_turns, after_first, asked_arguments, asked_line}
 use Rattle.pv_eval.specs.MachineSteps.{Stepped}
 use Rattle.pv_eval.specs.Sequenced.{Given}
 use Rattle.pv_eval.specs.States.{Setting, State, Res, Gives, then_do}
@@ -28,7 +28,7 @@ went-on b u k old new s s' lt d o h =
     let one : due_turns new ≡ 1 = ap (λ (q : Bool). if q then 1 else 0) d in
     leads-do b u k _ new doing.Evaluate s' (omega (arith, lt, one)) (ap value_of h) (after_first old) o
 
-given-ended : (es : List Started) → (given_by es).value ≡ ended es
+given-ended : (es : List Started) → (given_by es).value ≡ ended_value es
 given-ended [] = refl
 given-ended (e ∷ es) = refl
 

@@ -26,13 +26,13 @@ use Rattle.pv_exec.specs.declared.once.After.TheVariants as after
 use Rattle.pv_exec.specs.declared.task.Task.{Task}
 use Rattle.pv_exec.specs.declared.task.Doing.{Doing}
 use Rattle.pv_exec.specs.Tasks.{Reached}
-use Rattle.pv_exec.specs.Works.{Holds, asked}
+use Rattle.pv_exec.specs.Works.{Holds, turn_due}
 use Rattle.pv_exec.specs.Fits.{Runs}
 use Rattle.pv_exec.specs.Turning.{AdvancedLed, CutBefore}
 use Rattle.pv_exec.specs.Streaming.{IsFar, HasWritten, HasTold, Delivered, DeliveredOr, Streams, Begins}
 use Rattle.pv_exec.specs.Outlets.{Outlet, IsNear, event_of}
 use Rattle.pv_exec.specs.Words.{FitsWords}
-use Rattle.pv_exec.specs.Stages.{bounded, IsStaged, Stands, StandsOr}
+use Rattle.pv_exec.specs.Stages.{with_bound, IsStaged, Stands, StandsOr}
 use Rattle.pv_exec.specs.Running.{KeepsApart, StatementsCut, StatementsLed}
 use Rattle.pv_exec.proofs.Bounds.{holds-asked, has-stores}
 use Rattle.pv_exec.proofs.Stages.{stands-first, stands-next, stands-cut, stands-last, let-out-block}
@@ -246,7 +246,7 @@ keeps-on bytes l m n h k = record { total = λ t f. k.total (t + length bytes) (
 stages-cut : {o o' : Outlet} (u : Stored) (n w k : ℕ) (d0 d : Doing) (ts : List Task) (old m m' : Machine) → (h : Streaming u o o' n w k d0 d ts old m) → CutBefore u d ts m m' → (b : Setting) (stage : ℕ → State) → IsSetting b u old.moment → Follows old.moment 0 → IsStaged (StatementsCut b u d0 old) stage
     → (j : ℕ) → m.moment.taken ≤ j → j < m'.moment.taken → stage (suc j) ≡ state_of (record m.moment { taken = j }) h.bytes h.events
 stages-cut u n w k d0 d ts old m m' h cut b stage hs hl st j low high =
-    let c = bounded b j in
+    let c = with_bound b j in
     let hc : IsSetting c u old.moment = record { unit = hs.unit; types = hs.types; sides = hs.sides } in
     st.cut j (state_of (record m.moment { taken = j }) h.bytes h.events)
     (λ all g. cut c h.bytes h.events (setting-apart c u h.bytes old.moment m.moment h.keeps hc) (total-apart [] h.bytes old.moment m.moment h.keeps hl) all low high (h.held c [] [] hc hl all low g))
@@ -280,10 +280,10 @@ delivered-total bytes l m m' h d =
     }
 
 -- where another turn is due, or an expression of a loop was not started, the run is at its next stage
-stage-here : {o o' : Outlet} (u : Stored) (n w k : ℕ) (d0 d : Doing) (ts : List Task) (old m : Machine) → Runs u ts m.started d → asked m.started d ≡ 1 → (h : Streaming u o o' n w k d0 d ts old m) → (b : Setting) (stage : ℕ → State) → IsSetting b u old.moment → Follows old.moment 0 → IsStaged (StatementsCut b u d0 old) stage → stage (suc m.moment.taken) ≡ state_of m.moment h.bytes h.events
+stage-here : {o o' : Outlet} (u : Stored) (n w k : ℕ) (d0 d : Doing) (ts : List Task) (old m : Machine) → Runs u ts m.started d → turn_due m.started d ≡ 1 → (h : Streaming u o o' n w k d0 d ts old m) → (b : Setting) (stage : ℕ → State) → IsSetting b u old.moment → Follows old.moment 0 → IsStaged (StatementsCut b u d0 old) stage → stage (suc m.moment.taken) ≡ state_of m.moment h.bytes h.events
 stage-here u n w k d0 d ts old m runs one h b stage hs hl st =
     let j = m.moment.taken in
-    let c = bounded b j in
+    let c = with_bound b j in
     let s = state_of m.moment h.bytes h.events in
     st.cut j s (λ all g. holds-asked c u all ts m.started d s one (has-stores c u m.started d hs.unit runs.doing_fits) runs.doing_fits (omega arith)
     (h.held c [] [] (record { unit = hs.unit; types = hs.types; sides = hs.sides }) hl all (omega arith) g))
@@ -294,7 +294,7 @@ held-delivered u n w w' k d0 d ts old m m' h x b out es hs hl all q g =
     subst (λ (xs : List Started). Holds b u all ts xs d (state_of m'.moment (out ++ (h.bytes ++ x.bytes)) (es ++ (h.events ++ x.events)))) (sym started)
     (subst (λ (s : State). Holds b u all ts m.started d s) (sym (state-same out h.bytes es h.events m m' x)) (h.held b out es hs hl all q g))
 
-pub streaming-delivered : {o o1 o2 : Outlet} (u : Stored) (n w w' k : ℕ) (d0 d : Doing) (ts : List Task) (old m m' : Machine) → Runs u ts m.started d → asked m.started d ≡ 1 → Streaming u o o1 n w k d0 d ts old m → Delivered o1 o2 u.names w w' m m' → Streaming u o o2 n w' (suc m'.moment.taken) d0 d ts old m'
+pub streaming-delivered : {o o1 o2 : Outlet} (u : Stored) (n w w' k : ℕ) (d0 d : Doing) (ts : List Task) (old m m' : Machine) → Runs u ts m.started d → turn_due m.started d ≡ 1 → Streaming u o o1 n w k d0 d ts old m → Delivered o1 o2 u.names w w' m m' → Streaming u o o2 n w' (suc m'.moment.taken) d0 d ts old m'
 streaming-delivered u n w w' k d0 d ts old m m' runs one h x =
     let taken : m'.moment.taken ≡ m.moment.taken = ap (λ (q : Machine). q.moment.taken) x.same in
     let long = length-append h.bytes x.bytes in
@@ -323,8 +323,8 @@ fit-delivered u m m' d h = subst (λ (xs : List Started). Fit u xs) (sym (ap (λ
 pub runs-delivered : {o o' : Outlet} {names : List (List ℕ)} {w w' : ℕ} (u : Stored) (ts : List Task) (d : Doing) (m m' : Machine) → Delivered o o' names w w' m m' → Runs u ts m.started d → Runs u ts m'.started d
 runs-delivered u ts d m m' k h = subst (λ (xs : List Started). Runs u ts xs d) (sym (ap (λ (q : Machine). q.started) k.same)) h
 
-pub asked-delivered : {o o' : Outlet} {names : List (List ℕ)} {w w' : ℕ} (d : Doing) (m m' : Machine) → Delivered o o' names w w' m m' → asked m.started d ≡ 1 → asked m'.started d ≡ 1
-asked-delivered d m m' k h = ap (λ (q : Machine). asked q.started d) k.same ∙ h
+pub asked-delivered : {o o' : Outlet} {names : List (List ℕ)} {w w' : ℕ} (d : Doing) (m m' : Machine) → Delivered o o' names w w' m m' → turn_due m.started d ≡ 1 → turn_due m'.started d ≡ 1
+asked-delivered d m m' k h = ap (λ (q : Machine). turn_due q.started d) k.same ∙ h
 
 -- how the statements ended
 pub led-last : {o o' : Outlet} (u : Stored) (n w : ℕ) (d0 d : Doing) (l : Last) (ts ts' : List Task) (old m m' : Machine) → Streaming u o o' n w (suc m.moment.taken) d0 d ts old m → AdvancedLed u n d (Ok (after.Last l)) ts ts' m m' → CutBefore u d ts m m' → KeepsSetting m.moment m'.moment → StatementsLed u o o' n d0 (Ok l) old m'
@@ -378,14 +378,14 @@ streams-part o o1 o2 undelivered.NoMemory names w w' m m' bytes part events h d 
 }
 
 -- how far they were let out then
-stands-part : (o o1 o2 : Outlet) (u : Stored) (n w w' : ℕ) (d0 d : Doing) (ts : List Task) (old m m' : Machine) (e : Undelivered) → Runs u ts m.started d → asked m.started d ≡ 1 → (h : Streaming u o o1 n w m.moment.taken d0 d ts old m) (x : DeliveredOr (Some e) o1 o2 u.names w w' m m') → (b : Setting) (stage : ℕ → State) → IsSetting b u old.moment → Follows old.moment 0 → IsStaged (StatementsCut b u d0 old) stage → StandsOr (Some e) stage m'.moment.taken (h.bytes ++ (part-of o1 o2 e u.names w w' m m' x).part) h.events
+stands-part : (o o1 o2 : Outlet) (u : Stored) (n w w' : ℕ) (d0 d : Doing) (ts : List Task) (old m m' : Machine) (e : Undelivered) → Runs u ts m.started d → turn_due m.started d ≡ 1 → (h : Streaming u o o1 n w m.moment.taken d0 d ts old m) (x : DeliveredOr (Some e) o1 o2 u.names w w' m m') → (b : Setting) (stage : ℕ → State) → IsSetting b u old.moment → Follows old.moment 0 → IsStaged (StatementsCut b u d0 old) stage → StandsOr (Some e) stage m'.moment.taken (h.bytes ++ (part-of o1 o2 e u.names w w' m m' x).part) h.events
 unfolding part-of
 stands-part o o1 o2 u n w w' d0 d ts old m m' undelivered.NoMemory runs one h x b stage hs hl st = tt
 stands-part o o1 o2 u n w w' d0 d ts old m m' undelivered.WriteFault runs one h x b stage hs hl st =
     λ last. let-out-block stage m.moment.taken last h.bytes m.moment.printed h.events o1.sink o2.sink (h.stands b stage hs hl st) x.0
     (ap (λ (s : State). s.output) (stage-here u n w m.moment.taken d0 d ts old m runs one h b stage hs hl st))
 
-pub led-undelivered : (o o1 o2 : Outlet) (u : Stored) (n w w' : ℕ) (d0 d : Doing) (ts : List Task) (old m m' : Machine) (e : Undelivered) → Runs u ts m.started d → asked m.started d ≡ 1 → Streaming u o o1 n w m.moment.taken d0 d ts old m → DeliveredOr (Some e) o1 o2 u.names w w' m m' → StatementsLed u o o2 n d0 (Err (broken.Delivery e)) old m'
+pub led-undelivered : (o o1 o2 : Outlet) (u : Stored) (n w w' : ℕ) (d0 d : Doing) (ts : List Task) (old m m' : Machine) (e : Undelivered) → Runs u ts m.started d → turn_due m.started d ≡ 1 → Streaming u o o1 n w m.moment.taken d0 d ts old m → DeliveredOr (Some e) o1 o2 u.names w w' m m' → StatementsLed u o o2 n d0 (Err (broken.Delivery e)) old m'
 led-undelivered o o1 o2 u n w w' d0 d ts old m m' e runs one h k =
     let p = part-of o1 o2 e u.names w w' m m' k in
     record {

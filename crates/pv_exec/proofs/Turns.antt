@@ -13,7 +13,7 @@ use Rattle.pv_exec.specs.declared.once.After.TheVariants as after
 use Rattle.pv_exec.specs.declared.task.Task.{Task}
 use Rattle.pv_exec.specs.declared.task.Doing.{Doing}
 use Rattle.pv_exec.specs.declared.task.Doing.TheVariants as doing
-use Rattle.pv_exec.specs.Works.{due, asked}
+use Rattle.pv_exec.specs.Works.{due, turn_due}
 use Rattle.pv_exec.specs.Fits.{AfterRuns}
 use Rattle.pv_exec.specs.Leading.{OnceLed}
 use Rattle.pv_exec.specs.Turning.{UntilDueLed, AskedAfter, AdvancedLed, AdvancedRuns, AdvancedPace}
@@ -54,7 +54,7 @@ pace-of n k k' (Ok (after.Last l)) lt le = tt
 pace-of n k k' (Err e) lt le = tt
 
 -- what isn't asked for is not due, and what is due is asked for
-pub unasked-undue : (es : List Started) (d : Doing) → asked es d ≡ 0 → due es d ≡ 0
+pub unasked-undue : (es : List Started) (d : Doing) → turn_due es d ≡ 0 → due es d ≡ 0
 unasked-undue es (doing.Enter n) e = absurd (omega (arith, e))
 unasked-undue es (doing.Jump n l i) e = absurd (omega (arith, e))
 unasked-undue es (doing.Statements l i) e = refl
@@ -69,7 +69,7 @@ unasked-undue es (doing.Call f) e = refl
 unasked-undue es doing.Evaluate e = e
 unasked-undue es doing.Evaluated e = refl
 
-pub due-asked : (es : List Started) (d : Doing) → due es d ≡ 1 → asked es d ≡ 1
+pub due-asked : (es : List Started) (d : Doing) → due es d ≡ 1 → turn_due es d ≡ 1
 due-asked es (doing.Enter n) e = refl
 due-asked es (doing.Jump n l i) e = refl
 due-asked es (doing.Statements l i) e = absurd (omega (arith, e))

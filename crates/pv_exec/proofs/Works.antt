@@ -4,7 +4,7 @@ use Rattle.std.specs.Prelude.{Bool, true, false, if◌then◌else◌, reverse, m
 use Rattle.std.proofs.lemmas.List.{reverse-append}
 use Rattle.std.proofs.lemmas.List.Elements.{All-weaker}
 use Rattle.pv_typed.specs.Tables.{Stored}
-use Rattle.pv_eval.specs.Machines.{ended, is_due}
+use Rattle.pv_eval.specs.Machines.{ended_value, is_due}
 use Rattle.pv_eval.specs.States.{Setting, State, Res, Gives, then_do}
 use Rattle.pv_eval.specs.Stack.{rest}
 use Rattle.pv_eval.specs.Machines.{Started}
@@ -18,7 +18,7 @@ use Rattle.pv_exec.specs.declared.once.After.TheVariants as after
 use Rattle.pv_eval.specs.declared.failure.Failure.{Failure}
 use Rattle.pv_eval.specs.declared.failure.Failure.TheVariants as failure
 use Rattle.pv_exec.specs.Tasks.{Reached, Left, Valued, after_task}
-use Rattle.pv_exec.specs.Works.{does, due, others, passed, Work, after_work, Standing, Holds, flow_of}
+use Rattle.pv_exec.specs.Works.{does, due, others, behind_call, Work, after_work, Standing, Holds, flow_of}
 use Rattle.pv_exec.specs.Leading.{Leads, Waits, Popped, HoldsAfter, FollowedOr, Operates, LeadsOr}
 use Rattle.pv_exec.proofs.Pieces.{then-then}
 
@@ -89,7 +89,7 @@ popped b u all tasks ts t es d r s e z is h =
             waits = record {
               works = ws;
               same = two;
-              standing = subst (λ x. Standing ws (passed x (others es d))) one st.1;
+              standing = subst (λ x. Standing ws (behind_call x (others es d))) one st.1;
               law = law ∙ ap (λ x. then_do (after_task b u w.level x w.task r s) (rest (after_work b u) ws)) st.0 ∙ ap (λ x. then_do (after_task b u w.level (others es d) x r s) (rest (after_work b u) ws)) one;
               rooms = All-weaker (λ (w : Work). b.bound < s.taken + w.level + due es d) (λ (w : Work). b.bound < s.taken + w.level) (λ w lt. omega (arith, lt, z)) ws (all-rest (λ (w : Work). b.bound < s.taken + w.level + due es d) w ws rooms);
               most = h.most;
@@ -108,7 +108,7 @@ pub left-does : (b : Setting) (u : Stored) (k : ℕ) (es : List Started) (fl : F
 unfolding does
 left-does b u k es fl s = refl
 
-pub value-does : (b : Setting) (u : Stored) (k : ℕ) (es : List Started) (s : State) → does b u k es doing.Evaluated s ≡ Gives (Valued (ended es)) s
+pub value-does : (b : Setting) (u : Stored) (k : ℕ) (es : List Started) (s : State) → does b u k es doing.Evaluated s ≡ Gives (Valued (ended_value es)) s
 unfolding does
 value-does b u k es s = refl
 

@@ -12,7 +12,7 @@ end_all b os s = each (λ (o : ℕ) s. act b (object_at b.unit o).line (Ends o) 
 
 -- 6.2.4p6, 6.8.2p2: a block: its objects are made when it is entered, in the order of their declarations (which is our choice), it is executed, and
 -- in whatever way it is left they end
-abbrev pub scoped : Setting → List ℕ → (State → Res Flow) → State → Res Flow
-scoped b os body s =
+abbrev pub in_block : Setting → List ℕ → (State → Res Flow) → State → Res Flow
+in_block b os body s =
     then_do (each (λ (o : ℕ) s. act b (object_at b.unit o).line (Makes o) s) os s) (λ v s. then_do (body s) (λ fl s.
     then_do (end_all b os s) (λ v s. Gives fl s)))

@@ -1,7 +1,7 @@
 -- Calls as the code makes them (C17 6.5.2.2, 6.9.1): a bridge to execution.
 use Rattle.std.specs.Prelude.{◌≡◌, ℕ, ◌+◌, ◌<◌, ◌≤◌, List, Result}
 use Rattle.pv_typed.specs.TypedUnits.{TypedFunction, object_at, function_at}
-use Rattle.pv_typed.specs.Tables.{Stored, whole}
+use Rattle.pv_typed.specs.Tables.{Stored, whole_unit}
 use Rattle.pv_world.specs.Worlds.{Worth}
 use Rattle.pv_eval.specs.declared.failure.Failure.{Failure}
 use Rattle.pv_eval.specs.States.{Setting, State, Res, Gives, then_do}
@@ -16,7 +16,7 @@ use Rattle.pv_exec.specs.declared.task.Doing.TheVariants as doing
 use Rattle.pv_exec.specs.declared.task.Way.{Way}
 use Rattle.pv_exec.specs.declared.task.Way.TheVariants as way
 use Rattle.pv_exec.specs.Calls.{below, take_params, runs_body}
-use Rattle.pv_exec.specs.Tasks.{Reached, Valued, left, after_flow}
+use Rattle.pv_exec.specs.Tasks.{Reached, Valued, left_flow, after_flow}
 use Rattle.pv_exec.specs.Works.{flow_of, does, others, due}
 use Rattle.pv_exec.specs.Leading.{Leads, LeadsOr}
 use Rattle.pv_exec.specs.Fits.{DoingFits}
@@ -26,12 +26,12 @@ abbrev pub takes_one : Setting → (line o : ℕ) → Worth → State → Res Wo
 takes_one b line o v s = then_do (act b line (Makes o) s) (λ x s. act b line (Puts o 0 (lvalue b (object_at b.unit o).t) v) s)
 
 -- 6.9.1p10: what comes before the body of a function that is called
-abbrev pub begun : Setting → (line : ℕ) → TypedFunction → List Worth → State → Res Worth
-begun b line f vs s = then_do (act b line BeginsBody s) (λ x s. take_params b line f.params vs s)
+abbrev pub body_beginning : Setting → (line : ℕ) → TypedFunction → List Worth → State → Res Worth
+body_beginning b line f vs s = then_do (act b line BeginsBody s) (λ x s. take_params b line f.params vs s)
 
 -- 6.9.1p11: the body of a function is entered
 pub record BodyIs (u : Stored) (f : ℕ) (d : Doing) : Type 0 where
-  pub runs : (b : Setting) (k : ℕ) (es : List Started) (s : State) → b.unit ≡ whole u → left (runs_body b (below b k) (function_at b.unit f).body s) ≡ does b u k es d s
+  pub runs : (b : Setting) (k : ℕ) (es : List Started) (s : State) → b.unit ≡ whole_unit u → left_flow (runs_body b (below b k) (function_at b.unit f).body s) ≡ does b u k es d s
   pub here : (es : List Started) → others es d ≡ es
   pub counts : (es : List Started) → due es d ≡ 1
   pub fits : (es : List Started) → DoingFits u es d

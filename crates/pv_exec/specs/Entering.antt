@@ -3,27 +3,27 @@ use Rattle.std.specs.Prelude.{Bool, true, false, Some, if◌then◌else◌}
 use Rattle.pv_typed.specs.TypedStatement.{TypedStatement, Block, Expression, If, IfElse, Switch, Case, Default, While, DoWhile, For, ForDeclaration, Continue, Break, Return}
 use Rattle.pv_eval.specs.States.{Setting, State, Res, Gives, then_do}
 use Rattle.pv_exec.specs.Execution.{ex, exs}
-use Rattle.pv_exec.specs.Flows.{Flow, Falls, Breaks, Continues, Below, full, nothing_done, testing, stepped, round_do, returns_value}
-use Rattle.pv_exec.specs.Blocks.{scoped}
+use Rattle.pv_exec.specs.Flows.{Flow, Falls, Breaks, Continues, Below, full_expression, nothing_done, testing, then_step, round_do, returns_value}
+use Rattle.pv_exec.specs.Blocks.{in_block}
 use Rattle.pv_world.specs.Worths.{is_true}
-use Rattle.pv_exec.specs.Parts.{loop_of, rounds, selected, selection_of}
+use Rattle.pv_exec.specs.Parts.{loop_of, rounds, selection_jump, selection_of}
 use Rattle.pv_exec.specs.Tasks.{within}
 
 -- what each kind of statement does behind its turn; each clause is a part of the clause of execution
-abbrev pub entered : Setting → Below → TypedStatement → State → Res Flow
-entered b w (Block line os xs) s = scoped b os (λ s. exs b w xs s) s
-entered b w (Expression line x) s = nothing_done (full b w.call x s)
-entered b w (If line c x) s = then_do (testing b w.call c s) (λ v s. if is_true v then ex b w x s else Gives Falls s)
-entered b w (IfElse line c x y) s = then_do (testing b w.call c s) (λ v s. if is_true v then ex b w x s else ex b w y s)
-entered b w (Switch line c (Block m os xs)) s = then_do (full b w.call c s) (selected b w (selection_of (Switch line c (Block m os xs))))
-entered b w (While line c x) s = rounds b w (loop_of (While line c x)) s
-entered b w (DoWhile line x c) s = round_do b w.call c (λ s. ex b w x s) (w.again_do x c) s
-entered b w (For line first c step x) s = stepped b w.call first (rounds b w (loop_of (For line first c step x))) s
-entered b w (ForDeclaration line os ds c step x) s = scoped b os (within b w (Some ds) (loop_of (ForDeclaration line os ds c step x))) s
-entered b w (Continue line) s = Gives Continues s
-entered b w (Break line) s = Gives Breaks s
-entered b w (Return line x) s = returns_value b w.call x line s
-entered b w x s = Gives Falls s
+abbrev pub behind_turn : Setting → Below → TypedStatement → State → Res Flow
+behind_turn b w (Block line os xs) s = in_block b os (λ s. exs b w xs s) s
+behind_turn b w (Expression line x) s = nothing_done (full_expression b w.call x s)
+behind_turn b w (If line c x) s = then_do (testing b w.call c s) (λ v s. if is_true v then ex b w x s else Gives Falls s)
+behind_turn b w (IfElse line c x y) s = then_do (testing b w.call c s) (λ v s. if is_true v then ex b w x s else ex b w y s)
+behind_turn b w (Switch line c (Block m os xs)) s = then_do (full_expression b w.call c s) (selection_jump b w (selection_of (Switch line c (Block m os xs))))
+behind_turn b w (While line c x) s = rounds b w (loop_of (While line c x)) s
+behind_turn b w (DoWhile line x c) s = round_do b w.call c (λ s. ex b w x s) (w.again_do x c) s
+behind_turn b w (For line first c step x) s = then_step b w.call first (rounds b w (loop_of (For line first c step x))) s
+behind_turn b w (ForDeclaration line os ds c step x) s = in_block b os (within b w (Some ds) (loop_of (ForDeclaration line os ds c step x))) s
+behind_turn b w (Continue line) s = Gives Continues s
+behind_turn b w (Break line) s = Gives Breaks s
+behind_turn b w (Return line x) s = returns_value b w.call x line s
+behind_turn b w x s = Gives Falls s
 
 -- 6.8.1: a statement behind a label
 abbrev pub is_labelled : TypedStatement → Bool

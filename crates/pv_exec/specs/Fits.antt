@@ -5,7 +5,7 @@ use Rattle.pv_tree.specs.declared.nodes.ListId.{ListId}
 use Rattle.pv_typed.specs.Children.{HasKinds}
 use Rattle.pv_typed.specs.Trees.{is_scope_tree}
 use Rattle.pv_typed.specs.TypedUnits.{object_at}
-use Rattle.pv_typed.specs.Tables.{Stored, whole}
+use Rattle.pv_typed.specs.Tables.{Stored, whole_unit}
 use Rattle.pv_typed.specs.NodeTrees.{IsStatement, statement_at}
 use Rattle.pv_eval.specs.declared.failure.Failure.{Failure}
 use Rattle.pv_eval.specs.Machines.{Started, is_going, is_asked, is_ended, asked_function}
@@ -18,7 +18,7 @@ use Rattle.pv_exec.specs.declared.task.Doing.TheVariants as doing
 use Rattle.pv_exec.specs.declared.task.Way.{Way}
 use Rattle.pv_exec.specs.declared.task.Way.TheVariants as way
 use Rattle.pv_exec.specs.Read.{IsRound, IsStep}
-use Rattle.pv_exec.specs.Works.{others, passed}
+use Rattle.pv_exec.specs.Works.{others, behind_call}
 
 -- 6.8.2p1: a list of statements of the unit
 abbrev pub HasList : Stored → ListId → Type 0
@@ -30,7 +30,7 @@ IsScope u n = IsStatement u n × (is_scope_tree (statement_at u n) ≡ true)
 
 -- a store of an object's initializer (6.7.9)
 abbrev pub HasStore : Stored → ℕ → ℕ → Type 0
-HasStore u o i = (o < length u.objects) × (i < length (object_at (whole u) o).inits)
+HasStore u o i = (o < length u.objects) × (i < length (object_at (whole_unit u) o).inits)
 
 -- what a task names is there: statements (6.8), stores of an initializer (6.7.9), a function (6.9.1)
 abbrev pub TaskFits : Stored → Task → Type 0
@@ -89,12 +89,12 @@ Stands (task.Storing o i) es = Unit {0}
 -- 6.5.2.2: the same of all tasks, the innermost first
 abbrev pub TasksStand : List Task → List Started → Type 0
 TasksStand [] es = Unit {0}
-TasksStand (t ∷ ts) es = Stands t es × TasksStand ts (passed t es)
+TasksStand (t ∷ ts) es = Stands t es × TasksStand ts (behind_call t es)
 
 -- what an operation leads to names what is there (6.8), and stands where it was found
 abbrev pub WayFits : Stored → (stand es : List Started) → Way → Type 0
 WayFits u stand es (way.Do d) = DoingFits u es d × (others es d ≡ stand)
-WayFits u stand es (way.With t d) = TaskFits u t × DoingFits u es d × (passed t (others es d) ≡ stand) × Stands t (others es d)
+WayFits u stand es (way.With t d) = TaskFits u t × DoingFits u es d × (behind_call t (others es d) ≡ stand) × Stands t (others es d)
 
 -- the same, unless the run ended (as by undefined behaviour, 3.4.3)
 abbrev pub WayFitsOr : Stored → (stand es : List Started) → Result Way Failure → Type 0

@@ -10,7 +10,7 @@ use Rattle.pv_world.specs.Worths.{is_true}
 use Rattle.pv_eval.specs.States.{Setting, State, Res, Gives, then_do, tick}
 use Rattle.pv_eval.specs.TypeForms.{lvalue, size_of}
 use Rattle.pv_eval.specs.Operations.{Tests, Accepts, Fills, Puts, PutsText, act}
-use Rattle.pv_eval.specs.Steps.{Calling, converted, handed}
+use Rattle.pv_eval.specs.Steps.{Calling, with_conversion, accepted_value}
 use Rattle.pv_eval.specs.Evaluation.{ev}
 
 -- how a statement is left (6.8p2, 6.8.6p2): it falls through to what follows, or jumps by `break`, `continue` or `return`, with a value
@@ -27,8 +27,8 @@ pub record Below : Type 0 where
   pub again_do : TypedStatement → (condition : TypedTree) → State → Res Flow
 
 -- 6.8p4: a full expression, which has no foes; its accesses end with it
-abbrev pub full : Setting → Calling → TypedTree → State → Res Worth
-full b call x s = then_do (ev b call x [] s) (λ g s. Gives g.value s)
+abbrev pub full_expression : Setting → Calling → TypedTree → State → Res Worth
+full_expression b call x s = then_do (ev b call x [] s) (λ g s. Gives g.value s)
 
 -- 5.1.2.3p3: what is done for each of a list, one after the other in its order
 abbrev pub each : {A : Type 0} → (A → State → Res Worth) → List A → State → Res Worth
@@ -41,7 +41,7 @@ nothing_done r = then_do r (λ v s. Gives Falls s)
 
 -- 6.8.4.1p2, 6.8.5p4: a controlling expression, compared with 0 at its own line
 abbrev pub testing : Setting → Calling → TypedTree → State → Res Worth
-testing b call x s = then_do (full b call x s) (λ v s. act b (line_of x) (Tests v) s)
+testing b call x s = then_do (full_expression b call x s) (λ v s. act b (line_of x) (Tests v) s)
 
 -- 6.8p2: in sequence: goes on where the statement before fell through; else how that was left is handed on
 abbrev pub falls : Flow → (State → Res Flow) → State → Res Flow
@@ -55,14 +55,14 @@ goes_on (Returns v) go s = Gives (Returns v) s
 goes_on _ go s = go s
 
 -- 6.8.6.3p2: after the body of a `switch`: `break` ends it, `continue` and `return` are handed on
-abbrev pub switched : Flow → State → Res Flow
-switched Breaks s = Gives Falls s
-switched flow s = Gives flow s
+abbrev pub behind_switch : Flow → State → Res Flow
+behind_switch Breaks s = Gives Falls s
+behind_switch flow s = Gives flow s
 
 -- 6.7.9p11, p13, p14: a store of an initializer that is reached takes a turn: a value as if assigned, or a string's characters
 abbrev pub stores_value : Setting → Calling → (object : ℕ) → Store → StoredValue → State → Res Worth
 stores_value b call o x (ValueOf e) s =
-    tick b s (λ s. then_do (full b call e s) (λ v s. then_do (handed b e v s) (λ v s. act b x.line (Puts o x.offset (lvalue b x.t) v) s)))
+    tick b s (λ s. then_do (full_expression b call e s) (λ v s. then_do (accepted_value b e v s) (λ v s. act b x.line (Puts o x.offset (lvalue b x.t) v) s)))
 stores_value b call o x (TextOf l) s = tick b s (λ s. act b x.line (PutsText o x.offset (size_of b x.t) l) s)
 
 -- 6.7.9p10, p19, p21: all bytes first: 0 where there are braces or a string for an array; without an initializer they have no value
@@ -83,13 +83,13 @@ if_tested b call None go s = go s
 if_tested b call (Some x) go s = then_do (testing b call x s) (λ v s. if is_true v then go s else Gives Falls s)
 
 -- 6.8.5.3p1, p2: the first or the last expression of a `for`, which may be left out
-abbrev pub stepped : Setting → Calling → Option TypedTree → (State → Res Flow) → State → Res Flow
-stepped b call None go s = go s
-stepped b call (Some x) go s = then_do (full b call x s) (λ v s. go s)
+abbrev pub then_step : Setting → Calling → Option TypedTree → (State → Res Flow) → State → Res Flow
+then_step b call None go s = go s
+then_step b call (Some x) go s = then_do (full_expression b call x s) (λ v s. go s)
 
 -- 6.8.5.1p1, 6.8.5.3p1: a round of `while` or `for`: the condition, the body, the last expression, and again
 abbrev pub round : Setting → Calling → (condition step : Option TypedTree) → (body again : State → Res Flow) → State → Res Flow
-round b call c step body again s = if_tested b call c (λ s. then_do (body s) (λ fl s. goes_on fl (stepped b call step again) s)) s
+round b call c step body again s = if_tested b call c (λ s. then_do (body s) (λ fl s. goes_on fl (then_step b call step again) s)) s
 
 -- 6.8.5.2p1: a round of `do`: the body, the condition, and again
 abbrev pub round_do : Setting → Calling → (condition : TypedTree) → (body again : State → Res Flow) → State → Res Flow
@@ -99,4 +99,4 @@ round_do b call c body again s = then_do (body s) (λ fl s. goes_on fl (if_teste
 abbrev pub returns_value : Setting → Calling → Option TypedTree → (line : ℕ) → State → Res Flow
 returns_value b call None line s = Gives (Returns Nothing) s
 returns_value b call (Some x) line s =
-    then_do (full b call x s) (λ v s. then_do (converted b x v s) (λ v s. then_do (act b line (Accepts v) s) (λ v s. Gives (Returns v) s)))
+    then_do (full_expression b call x s) (λ v s. then_do (with_conversion b x v s) (λ v s. then_do (act b line (Accepts v) s) (λ v s. Gives (Returns v) s)))

@@ -10,7 +10,7 @@ use Rattle.pv_eval.specs.declared.failure.Failure.{Failure}
 use Rattle.pv_eval.specs.declared.failure.Failure.TheVariants as failure
 use Rattle.pv_eval.specs.States.{Setting, State, Stopped, Res, Gives, Stops, then_do, Turns}
 use Rattle.pv_eval.specs.Moments.{Always, state_of}
-use Rattle.pv_eval.specs.Machines.{Machine, Started, ended, after_first}
+use Rattle.pv_eval.specs.Machines.{Machine, Started, ended_value, after_first}
 use Rattle.pv_eval.specs.Stack.{rest}
 use Rattle.pv_exec.specs.declared.once.After.{After}
 use Rattle.pv_exec.specs.declared.once.After.TheVariants as after
@@ -25,10 +25,10 @@ use Rattle.pv_exec.specs.Flows as execution
 use Rattle.pv_exec.specs.Blocks.{end_all}
 use Rattle.pv_exec.specs.Execution.{ex}
 use Rattle.pv_exec.specs.Calls.{below}
-use Rattle.pv_exec.specs.Parts.{loop_of, tested}
-use Rattle.pv_exec.specs.Entering.{entered}
-use Rattle.pv_exec.specs.Tasks.{Reached, Left, Valued, left, after_task, after_flow, after_value}
-use Rattle.pv_exec.specs.Works.{flow_of, does, due, others, passed, Work, after_work, Standing, Holds}
+use Rattle.pv_exec.specs.Parts.{loop_of, loop_from_test}
+use Rattle.pv_exec.specs.Entering.{behind_turn}
+use Rattle.pv_exec.specs.Tasks.{Reached, Left, Valued, left_flow, after_task, after_flow, after_value}
+use Rattle.pv_exec.specs.Works.{flow_of, does, due, others, behind_call, Work, after_work, Standing, Holds}
 
 -- what is done next, of what an operation leads to
 abbrev pub doing_in : Way → Doing
@@ -43,7 +43,7 @@ way_means b u i k es (way.With t d) s = then_do (does b u k es d s) (after_task 
 -- 6.5.2.2: the expressions that are left to the tasks below, which wait for calls
 abbrev pub passed_by : Way → List Started → List Started
 passed_by (way.Do d) es = es
-passed_by (way.With t d) es = passed t es
+passed_by (way.With t d) es = behind_call t es
 
 -- a piece of the run leads here: it is what the way does, and there are levels enough for the turns that are left
 pub record Leads (b : Setting) (u : Stored) (all : Res Reached) (stand : List Started) (w : Way) (es : List Started) (s : State) : Type 0 where
@@ -68,15 +68,15 @@ Operates b u old d r new s s' = (k : ℕ) → s.taken ≤ b.bound → (due old d
 abbrev pub Led : Stored → (Setting → (level : ℕ) → State → Res execution.Flow) → (stand : List Started) → Result Way Failure → Machine → Machine → Type 0
 Led u piece stand r old new =
     Always u old.moment (λ b out es. (k : ℕ) → b.bound < old.moment.taken + k →
-    LeadsOr b u (left (piece b k (state_of old.moment out es))) stand r new.started (state_of new.moment out es))
+    LeadsOr b u (left_flow (piece b k (state_of old.moment out es))) stand r new.started (state_of new.moment out es))
 
 -- 6.8: what a statement does once its turn was taken
 abbrev pub entered_at : Stored → NodeId → Setting → (level : ℕ) → State → Res execution.Flow
-entered_at u n b k s = entered b (below b k) (statement_at u n) s
+entered_at u n b k s = behind_turn b (below b k) (statement_at u n) s
 
 -- 6.8.5p4: a loop once its condition has this value
 abbrev pub tested_at : Stored → NodeId → Worth → Setting → (level : ℕ) → State → Res execution.Flow
-tested_at u n v b k s = tested b (below b k) (loop_of (statement_at u n)) v s
+tested_at u n v b k s = loop_from_test b (below b k) (loop_of (statement_at u n)) v s
 
 -- 6.2.4p6: a block that was left so: its objects end
 abbrev pub block_left : Stored → NodeId → execution.Flow → Setting → (level : ℕ) → State → Res execution.Flow
@@ -86,12 +86,12 @@ block_left u n fl b k s = then_do (end_all b (declared_of (statement_at u n)) s)
 abbrev pub EnterLed : Stored → NodeId → Result Way Failure → Machine → Machine → Type 0
 EnterLed u n r old new =
     Always u old.moment (λ b out es. (k : ℕ) → old.moment.taken < b.bound → b.bound < old.moment.taken + k + 1 →
-    LeadsOr b u (left (ex b (below b k) (statement_at u n) (state_of old.moment out es))) old.started r new.started (state_of new.moment out es))
+    LeadsOr b u (left_flow (ex b (below b k) (statement_at u n) (state_of old.moment out es))) old.started r new.started (state_of new.moment out es))
 
 -- how the whole that was asked for ended (6.8p2)
 abbrev pub LastIs : Res Reached → Last → List Started → State → Type 0
 LastIs all (last.Left fl) es s = all ≡ Gives (Left (flow_of fl)) s
-LastIs all last.Valued es s = all ≡ Gives (Valued (ended es)) s
+LastIs all last.Valued es s = all ≡ Gives (Valued (ended_value es)) s
 LastIs all last.Turns es s = all ≡ Stops Turns s
 
 -- what is to come after an operation: the rest, or how a statement was left (6.8p2), or an expression's value (6.8p4)
@@ -120,19 +120,19 @@ pub record Waits (b : Setting) (u : Stored) (all : Res Reached) (tasks : List Ta
 pub record Popped (b : Setting) (u : Stored) (all : Res Reached) (ts : List Task) (t : Task) (es : List Started) (r : Reached) (s : State) : Type 0 where
   pub level : ℕ
   pub room : b.bound < s.taken + level
-  pub waits : Waits b u all ts (passed t es) (after_task b u level es t r s) s
+  pub waits : Waits b u all ts (behind_call t es) (after_task b u level es t r s) s
 
 -- 6.8p4: what a task leads to with the value of the innermost expression
 abbrev pub ValueLed : Stored → Task → Result Way Failure → Machine → Machine → Type 0
 ValueLed u t r old new =
     Always u old.moment (λ b out es. (k : ℕ) → old.moment.taken ≤ b.bound → b.bound < old.moment.taken + k →
-    LeadsOr b u (after_value b u k t (ended old.started) (state_of old.moment out es)) (after_first old.started) r new.started (state_of new.moment out es))
+    LeadsOr b u (after_value b u k t (ended_value old.started) (state_of old.moment out es)) (after_first old.started) r new.started (state_of new.moment out es))
 
 -- 6.8.6p2: the same with how a statement was left
 abbrev pub FlowLed : Stored → Task → Flow → Result Way Failure → Machine → Machine → Type 0
 FlowLed u t fl r old new =
     Always u old.moment (λ b out es. (k : ℕ) → old.moment.taken ≤ b.bound → b.bound < old.moment.taken + k →
-    LeadsOr b u (after_flow b u k old.started t (flow_of fl) (state_of old.moment out es)) (passed t old.started) r new.started (state_of new.moment out es))
+    LeadsOr b u (after_flow b u k old.started t (flow_of fl) (state_of old.moment out es)) (behind_call t old.started) r new.started (state_of new.moment out es))
 
 -- what an operation leads to
 abbrev pub DoingLed : Stored → Doing → Result Way Failure → Machine → Machine → Type 0
@@ -142,7 +142,7 @@ DoingLed u d r old new = Always u old.moment (λ b out es. Operates b u old.star
 abbrev pub TaskLed : Stored → Task → Result Way Failure → Machine → Machine → Type 0
 TaskLed u t r old new =
     Always u old.moment (λ b out es. (k : ℕ) → old.moment.taken ≤ b.bound → b.bound < old.moment.taken + k →
-    LeadsOr b u (after_task b u k (after_first old.started) t (Valued (ended old.started)) (state_of old.moment out es)) (passed t (after_first old.started)) r new.started (state_of new.moment out es))
+    LeadsOr b u (after_task b u k (after_first old.started) t (Valued (ended_value old.started)) (state_of old.moment out es)) (behind_call t (after_first old.started)) r new.started (state_of new.moment out es))
 
 -- what one operation leads to, where it takes no turn beyond the bound
 abbrev pub OnceLed : Stored → Doing → Result After Failure → (before behind : List Task) → Machine → Machine → Type 0

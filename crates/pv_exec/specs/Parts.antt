@@ -8,9 +8,9 @@ use Rattle.pv_world.specs.Worlds.{Worth}
 use Rattle.pv_world.specs.Worths.{is_true, int_of}
 use Rattle.pv_eval.specs.States.{Setting, State, Res, Gives, then_do, tick}
 use Rattle.pv_eval.specs.Operations.{Tests, Needs, act}
-use Rattle.pv_eval.specs.Steps.{converted}
-use Rattle.pv_exec.specs.Flows.{Flow, Falls, Below, goes_on, switched, stepped, round, if_tested}
-use Rattle.pv_exec.specs.Blocks.{scoped}
+use Rattle.pv_eval.specs.Steps.{with_conversion}
+use Rattle.pv_exec.specs.Flows.{Flow, Falls, Below, goes_on, behind_switch, then_step, round, if_tested}
+use Rattle.pv_exec.specs.Blocks.{in_block}
 use Rattle.pv_exec.specs.Labels.{target_of, unless_none}
 use Rattle.pv_exec.specs.Execution.{ex, exs_at}
 
@@ -38,17 +38,17 @@ line_of_condition (Some c) = line_of c
 
 -- 6.8.5.3p1: a loop from its last expression on
 abbrev pub stepped_on : Setting → Below → Loop → State → Res Flow
-stepped_on b w l s = stepped b w.call l.step (w.again l.condition l.step l.body) s
+stepped_on b w l s = then_step b w.call l.step (w.again l.condition l.step l.body) s
 
 -- 6.8.5p4: a loop from the end of its body on, which was left so
-abbrev pub rounded : Setting → Below → Loop → Flow → State → Res Flow
-rounded b w l fl s = goes_on fl (stepped b w.call l.step (w.again l.condition l.step l.body)) s
+abbrev pub rest_of_loop : Setting → Below → Loop → Flow → State → Res Flow
+rest_of_loop b w l fl s = goes_on fl (then_step b w.call l.step (w.again l.condition l.step l.body)) s
 
 -- 6.8.5p4: a loop from its condition on, which has this value
-abbrev pub tested : Setting → Below → Loop → Worth → State → Res Flow
-tested b w l v s =
+abbrev pub loop_from_test : Setting → Below → Loop → Worth → State → Res Flow
+loop_from_test b w l v s =
     then_do (act b (line_of_condition l.condition) (Tests v) s) (λ v s.
-    if is_true v then then_do (ex b w l.body s) (rounded b w l) else Gives Falls s)
+    if is_true v then then_do (ex b w l.body s) (rest_of_loop b w l) else Gives Falls s)
 
 -- 6.8.5.2: a loop whose condition comes last
 pub record DoLoop : Type 0 where
@@ -88,9 +88,9 @@ other_side b w None s = Gives Falls s
 other_side b w (Some y) s = ex b w y s
 
 -- 6.8.4.1p2: once the condition has this value
-abbrev pub chosen : Setting → Below → Option Choice → Worth → State → Res Flow
-chosen b w (Some c) v s = then_do (act b (line_of c.condition) (Tests v) s) (λ v s. if is_true v then ex b w c.body s else other_side b w c.other s)
-chosen b w None v s = Gives Falls s
+abbrev pub branch_of : Setting → Below → Option Choice → Worth → State → Res Flow
+branch_of b w (Some c) v s = then_do (act b (line_of c.condition) (Tests v) s) (λ v s. if is_true v then ex b w c.body s else other_side b w c.other s)
+branch_of b w None v s = Gives Falls s
 
 -- 6.8.4.2: a `switch` whose body is a block
 pub record Items : Type 0 where
@@ -119,9 +119,9 @@ selection_of _ = None
 
 -- 6.8.4.2p5: the jump, which takes a turn, and the body from there on
 abbrev pub jumps : Setting → Below → ℤ → Items → State → Res Flow
-jumps b w n x s = unless_none (target_of n x.items) (λ s. tick b s (λ s. then_do (scoped b x.objects (λ s. exs_at b w (target_of n x.items) x.items s) s) switched)) s
+jumps b w n x s = unless_none (target_of n x.items) (λ s. tick b s (λ s. then_do (in_block b x.objects (λ s. exs_at b w (target_of n x.items) x.items s) s) behind_switch)) s
 
 -- 6.8.4.2p5: once the expression has this value, which is promoted
-abbrev pub selected : Setting → Below → Option Selection → Worth → State → Res Flow
-selected b w (Some x) v s = then_do (converted b x.value v s) (λ v s. then_do (act b (line_of x.value) (Needs v) s) (λ v s. jumps b w (int_of v) x.block s))
-selected b w None v s = Gives Falls s
+abbrev pub selection_jump : Setting → Below → Option Selection → Worth → State → Res Flow
+selection_jump b w (Some x) v s = then_do (with_conversion b x.value v s) (λ v s. then_do (act b (line_of x.value) (Needs v) s) (λ v s. jumps b w (int_of v) x.block s))
+selection_jump b w None v s = Gives Falls s

@@ -13,13 +13,13 @@ use Rattle.pv_exec.specs.declared.task.Way.{Way}
 use Rattle.pv_exec.specs.Flows.{Falls}
 use Rattle.pv_exec.specs.Lists.{store_all}
 use Rattle.pv_exec.specs.Calls.{below}
-use Rattle.pv_exec.specs.Tasks.{Reached, Left, left}
+use Rattle.pv_exec.specs.Tasks.{Reached, Left, left_flow}
 use Rattle.pv_exec.specs.Leading.{LeadsOr}
 
 -- 6.7.9p11: the first of these stores, and then the others
 abbrev pub put_first : Setting → (level o : ℕ) → List Store → Worth → State → Res Reached
 put_first b k o [] v s = Gives (Left Falls) s
-put_first b k o (x ∷ xs) v s = left (then_do (then_do (act b x.line (Puts o x.offset (lvalue b x.t) v) s) (λ v s. store_all b (below b k).call o xs s)) (λ v s. Gives Falls s))
+put_first b k o (x ∷ xs) v s = left_flow (then_do (then_do (act b x.line (Puts o x.offset (lvalue b x.t) v) s) (λ v s. store_all b (below b k).call o xs s)) (λ v s. Gives Falls s))
 
 -- 6.7.9p11: what a store of this value leads to
 abbrev pub PutLed : Stored → (object i : ℕ) → Worth → Result Way Failure → Machine → Machine → Type 0

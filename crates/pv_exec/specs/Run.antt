@@ -9,7 +9,7 @@ use Rattle.pv_inst.specs.declared.values.CreateError.{CreateError}
 use Rattle.pv_inst.specs.declared.values.CreateError.TheVariants as refusal
 use Rattle.pv_typed.specs.TypedUnits.{function_at}
 use Rattle.pv_typed.specs.Mains.{main_of}
-use Rattle.pv_typed.specs.Tables.{Stored, whole}
+use Rattle.pv_typed.specs.Tables.{Stored, whole_unit}
 use Rattle.pv_world.specs.Worlds.{Worth, Nothing, Wrong, ByVerdict, Halts, Halt, Exits, Aborts, Refused, SidesEnded}
 use Rattle.pv_world.specs.Worths.{int_of}
 use Rattle.pv_eval.specs.States.{Setting, State, Turns, Unreached, Stopped, Res, Gives, Stops, then_do, first_world}
@@ -21,11 +21,11 @@ use Rattle.pv_exec.specs.Preparing.{prepare}
 
 -- what a run is given: the unit (5.1.1.1), its bound, and in a settled run the sides of its pairs
 abbrev pub setting_of : Stored → (bound : ℕ) → Option (List Bool) → (zap : Bool) → Setting
-setting_of u bound sides zap = record { unit = whole u; types = u.known; bound = bound; sides = sides; zap = zap }
+setting_of u bound sides zap = record { unit = whole_unit u; types = u.known; bound = bound; sides = sides; zap = zap }
 
 -- 5.1.2p1: nothing is made, printed or told yet, and the script says where storage instances will lie (the memory model)
-abbrev pub first : List ScriptLine → (zap : Bool) → State
-first script zap = record { world = first_world script zap; output = []; events = []; taken = 0 }
+abbrev pub initial_state : List ScriptLine → (zap : Bool) → State
+initial_state script zap = record { world = first_world script zap; output = []; events = []; taken = 0 }
 
 -- 5.1.2.2.1p1: `main` is called, without arguments, in the line of its name
 abbrev pub call_main : Setting → Option ℕ → State → Res Worth
@@ -34,7 +34,7 @@ call_main b (Some f) s = call_body b (below b b.bound) (function_at b.unit f) []
 
 -- 5.1.2p1: the run: what comes before the first turn, and the call of `main`
 unfoldable pub run_of : Setting → List ScriptLine → Res Worth
-run_of b script = then_do (prepare b (first script b.zap)) (λ v s. call_main b (main_of b.unit) s)
+run_of b script = then_do (prepare b (initial_state script b.zap)) (λ v s. call_main b (main_of b.unit) s)
 
 -- 5.1.2.2.3p1: the status, by the value that `main` gives: an `int`; typing makes sure of it
 abbrev pub status_of : Worth → ℤ
@@ -42,32 +42,32 @@ status_of v = if fits_of kind.Int (int_of v) then int_of v else pos 0
 
 -- the memory model leaves open where a storage instance lies: the request for one was refused;
 -- those for objects and literals are never denied
-abbrev pub refused : (name : ℕ) → CreateError → (line : ℕ) → Option Outcome
-refused name (refusal.Storage live size) line = Some (outcome.Storage live size line)
-refused name (refusal.Range k address) line = Some (outcome.Placement reason.Range name k line)
-refused name (refusal.Misaligned k address) line = Some (outcome.Placement reason.Misaligned name k line)
-refused name (refusal.Overlap k address other) line = Some (outcome.Placement reason.Overlap name k line)
-refused name _ line = None
+abbrev pub outcome_of_refusal : (name : ℕ) → CreateError → (line : ℕ) → Option Outcome
+outcome_of_refusal name (refusal.Storage live size) line = Some (outcome.Storage live size line)
+outcome_of_refusal name (refusal.Range k address) line = Some (outcome.Placement reason.Range name k line)
+outcome_of_refusal name (refusal.Misaligned k address) line = Some (outcome.Placement reason.Misaligned name k line)
+outcome_of_refusal name (refusal.Overlap k address other) line = Some (outcome.Placement reason.Overlap name k line)
+outcome_of_refusal name _ line = None
 
 -- a run ended without a verdict: `exit` (7.22.4.4), `abort` (7.22.4.1), a refused request, no side for a pair (the memory model)
-abbrev pub halted : Halt → ℕ → Option Outcome
-halted (Exits n) line = Some (outcome.Exit n)
-halted Aborts line = Some (outcome.Abort line)
-halted (Refused name e) line = refused name e line
-halted (SidesEnded k) line = Some (outcome.SidesEnded k)
+abbrev pub outcome_of_halt : Halt → ℕ → Option Outcome
+outcome_of_halt (Exits n) line = Some (outcome.Exit n)
+outcome_of_halt Aborts line = Some (outcome.Abort line)
+outcome_of_halt (Refused name e) line = outcome_of_refusal name e line
+outcome_of_halt (SidesEnded k) line = Some (outcome.SidesEnded k)
 
 -- an operation ended the run: undefined behaviour (3.4.3), an indeterminate value (3.19.2), what the memory model leaves undecided, or one of
 -- those above
-abbrev pub stopped : Wrong → ℕ → Option Outcome
-stopped (ByVerdict v) line = Some (outcome.Ends v line)
-stopped (Halts h) line = halted h line
+abbrev pub outcome_of_stop : Wrong → ℕ → Option Outcome
+outcome_of_stop (ByVerdict v) line = Some (outcome.Ends v line)
+outcome_of_stop (Halts h) line = outcome_of_halt h line
 
 -- 5.1.2.2.3p1: how a run ended: `main` returned, its turns were taken, or an operation ended it; its levels are never used up
 abbrev pub outcome_of : Res Worth → Option Outcome
 outcome_of (Gives v s) = Some (outcome.Exit (status_of v))
 outcome_of (Stops Turns s) = Some outcome.Turns
 outcome_of (Stops Unreached s) = None
-outcome_of (Stops (Stopped y line) s) = stopped y line
+outcome_of (Stops (Stopped y line) s) = outcome_of_stop y line
 
 -- the memory model: of each pair of candidates whether it was settled to its high one
 abbrev pub sides_at : State → List Bool

@@ -30,7 +30,7 @@ use Rattle.pv_exec.specs.Works.{flow_of, Holds}
 use Rattle.pv_exec.specs.Leading.{LastIs}
 use Rattle.pv_exec.specs.Streaming.{Streams, Begins}
 use Rattle.pv_exec.specs.Outlets.{Outlet}
-use Rattle.pv_exec.specs.Stages.{bounded, IsStaged, StandsOr}
+use Rattle.pv_exec.specs.Stages.{with_bound, IsStaged, StandsOr}
 
 -- the setting stays (the memory model: the sides of a settled run), and of what was printed (7.21.6.3) these bytes have left
 pub record KeepsApart (bytes : List ℕ) (old new : Moment) : Type 0 where
@@ -44,9 +44,9 @@ lost_by (broken.Operation failure.NoMemory) = Some undelivered.NoMemory
 lost_by (broken.Delivery e) = Some e
 
 -- why a run could not go on, and has no outcome (5.1.2.2.3p1)
-abbrev pub failed : {A : Type 0} → Result A Broken → Option Undelivered
-failed (Ok a) = None
-failed (Err e) = lost_by e
+abbrev pub failure_of : {A : Type 0} → Result A Broken → Option Undelivered
+failure_of (Ok a) = None
+failure_of (Err e) = lost_by e
 
 -- how a run was broken off, where these bytes and events have left it: an operation ended it (as by undefined behaviour, 3.4.3), or what has
 -- left is a first part of what leaves it in all
@@ -62,16 +62,16 @@ LastOr all (Err e) m out es = BrokenIs all e m.moment out es
 
 -- under this bound the statements are cut off in this state, whatever was asked for with them
 abbrev pub StatementsCut : Setting → Stored → Doing → Machine → (bound : ℕ) → State → Type 0
-StatementsCut b u d old n s = (all : Res Reached) → Holds (bounded b n) u all [] old.started d (state_of old.moment [] []) → all ≡ Stops Turns s
+StatementsCut b u d old n s = (all : Res Reached) → Holds (with_bound b n) u all [] old.started d (state_of old.moment [] []) → all ≡ Stops Turns s
 
 -- how the statements ended (6.8p2), with what has left the run meanwhile (5.1.2.3p6)
 pub record StatementsLed (u : Stored) (before now : Outlet) (n : ℕ) (d : Doing) (r : Result Last Broken) (old new : Machine) : Type 0 where
   pub bytes : List ℕ
   pub events : List Marked
-  pub streams : Streams (failed r) before now u.names bytes events
+  pub streams : Streams (failure_of r) before now u.names bytes events
   pub keeps : OnOk r (KeepsApart bytes old.moment new.moment)
   pub led : Always u old.moment (λ b out es. (all : Res Reached) → b.bound ≡ n → Holds b u all [] old.started d (state_of old.moment out es) → LastOr all r new (out ++ bytes) (es ++ events))
-  pub stands : (b : Setting) (stage : ℕ → State) → IsSetting b u old.moment → Follows old.moment 0 → IsStaged (StatementsCut b u d old) stage → StandsOr (failed r) stage new.moment.taken bytes events
+  pub stands : (b : Setting) (stage : ℕ → State) → IsSetting b u old.moment → Follows old.moment 0 → IsStaged (StatementsCut b u d old) stage → StandsOr (failure_of r) stage new.moment.taken bytes events
 
 -- 5.1.2.2.3p1: how a run ended, where these bytes and events have left it
 abbrev pub EndedIs : Res Worth → Result Ended Broken → Moment → List ℕ → List Marked → Type 0
@@ -96,15 +96,15 @@ EndLed u f fl r old new = Always u old.moment (λ b out es. (line : ℕ) → End
 
 -- under this bound a piece of the run is cut off in this state
 abbrev pub PieceCut : Setting → (piece : Setting → State → Res Worth) → Machine → (bound : ℕ) → State → Type 0
-PieceCut b piece old n s = piece (bounded b n) (state_of old.moment [] []) ≡ Stops Turns s
+PieceCut b piece old n s = piece (with_bound b n) (state_of old.moment [] []) ≡ Stops Turns s
 
 -- how a piece of the run ended, with what has left the run meanwhile (5.1.2.3p6)
 pub record PieceLed (u : Stored) (before now : Outlet) (n : ℕ) (piece : Setting → State → Res Worth) (r : Result Ended Broken) (old new : Machine) : Type 0 where
   pub bytes : List ℕ
   pub events : List Marked
-  pub streams : Streams (failed r) before now u.names bytes events
+  pub streams : Streams (failure_of r) before now u.names bytes events
   pub led : Always u old.moment (λ b out es. b.bound ≡ n → EndedIs (piece b (state_of old.moment out es)) r new.moment (out ++ bytes) (es ++ events))
-  pub stands : (b : Setting) (stage : ℕ → State) → IsSetting b u old.moment → Follows old.moment 0 → IsStaged (PieceCut b piece old) stage → StandsOr (failed r) stage new.moment.taken bytes events
+  pub stands : (b : Setting) (stage : ℕ → State) → IsSetting b u old.moment → Follows old.moment 0 → IsStaged (PieceCut b piece old) stage → StandsOr (failure_of r) stage new.moment.taken bytes events
 
 -- 5.1.2.2.1p1: the call of `main`
 abbrev pub main_called : (function : ℕ) → Setting → State → Res Worth

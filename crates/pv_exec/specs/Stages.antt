@@ -8,13 +8,13 @@ use Rattle.pv_eval.specs.declared.marked.Marked.{Marked}
 use Rattle.pv_eval.specs.States.{Setting, State, end_of}
 use Rattle.pv_exec.specs.declared.delivering.Undelivered.{Undelivered}
 use Rattle.pv_exec.specs.declared.delivering.Undelivered.TheVariants as undelivered
-use Rattle.pv_exec.specs.Run.{first}
+use Rattle.pv_exec.specs.Run.{initial_state}
 use Rattle.pv_exec.specs.Laws.{run_at}
 
 -- 5.1.2p1: the run in stages: nothing is printed or told yet; then all that comes before the first turn was done; then one
 -- turn more in each, with what comes before the next one
 abbrev pub stage_of : Stored → Option (List Bool) → (zap : Bool) → List ScriptLine → ℕ → State
-stage_of u sides zap script zero = first script zap
+stage_of u sides zap script zero = initial_state script zap
 stage_of u sides zap script (suc n) = end_of (run_at u sides zap script n)
 
 -- 5.1.2.3p6, 7.21.3p3: how far a run that takes so many turns was let out when a write failed. Output leaves it by blocks of 4096 bytes,
@@ -30,8 +30,8 @@ pub record LetOut (stage : ℕ → State) (taken : ℕ) (written : List ℕ) (ev
   pub next : (taken ≤ stages) ⊎ (4096 * blocks + 4096 ≤ length (stage (suc stages)).output)
 
 -- a setting with another bound
-abbrev pub bounded : Setting → (bound : ℕ) → Setting
-bounded b n = record b { bound = n }
+abbrev pub with_bound : Setting → (bound : ℕ) → Setting
+with_bound b n = record b { bound = n }
 
 -- an event that came when at most so many bytes were printed
 abbrev pub IsBehind : (printed : ℕ) → Marked → Type 0

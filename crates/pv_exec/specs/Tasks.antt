@@ -13,16 +13,16 @@ use Rattle.pv_world.specs.Worlds.{Worth, Nothing}
 use Rattle.pv_eval.specs.States.{Setting, State, Res, Gives, then_do}
 use Rattle.pv_eval.specs.TypeForms.{lvalue}
 use Rattle.pv_eval.specs.Operations.{Accepts, EndsBody, Puts, act}
-use Rattle.pv_eval.specs.Steps.{Calling, converted, handed}
+use Rattle.pv_eval.specs.Steps.{Calling, with_conversion, accepted_value}
 use Rattle.pv_eval.specs.Machines.{Started, answered_of}
 use Rattle.pv_exec.specs.declared.task.Task.{Task}
 use Rattle.pv_exec.specs.declared.task.Task.TheVariants as task
-use Rattle.pv_exec.specs.Flows.{Flow, Falls, Returns, Below, falls, switched}
+use Rattle.pv_exec.specs.Flows.{Flow, Falls, Returns, Below, falls, behind_switch}
 use Rattle.pv_exec.specs.Lists.{store_all}
 use Rattle.pv_exec.specs.Blocks.{end_all}
 use Rattle.pv_exec.specs.Execution.{exs}
 use Rattle.pv_exec.specs.Calls.{below, value_by}
-use Rattle.pv_exec.specs.Parts.{Loop, loop_of, rounds, rounded, tested, do_of, rounded_do, tested_do, choice_of, chosen, selection_of, selected}
+use Rattle.pv_exec.specs.Parts.{Loop, loop_of, rounds, rest_of_loop, loop_from_test, do_of, rounded_do, tested_do, choice_of, branch_of, selection_of, selection_jump}
 
 -- what is handed to a task: how a statement was left (6.8.6p2), or the value of an expression (6.8p4)
 pub data Reached : Type 0 where
@@ -30,8 +30,8 @@ pub data Reached : Type 0 where
   Valued : Worth → Reached
 
 -- 6.8.6p2: how a statement was left is handed on
-abbrev pub left : Res Flow → Res Reached
-left r = then_do r (λ fl s. Gives (Left fl) s)
+abbrev pub left_flow : Res Flow → Res Reached
+left_flow r = then_do r (λ fl s. Gives (Left fl) s)
 
 -- 6.8.2p1: the statements of a list from one on
 abbrev pub statements_from : Stored → ListId → ℕ → Statements
@@ -43,19 +43,19 @@ returned_of (Return line x) = x
 returned_of _ = None
 
 -- 6.8.6.4p3: once its expression has this value
-abbrev pub returned : Setting → (line : ℕ) → Option TypedTree → Worth → State → Res Flow
-returned b line (Some x) v s = then_do (converted b x v s) (λ v s. then_do (act b line (Accepts v) s) (λ v s. Gives (Returns v) s))
-returned b line None v s = Gives Falls s
+abbrev pub return_with : Setting → (line : ℕ) → Option TypedTree → Worth → State → Res Flow
+return_with b line (Some x) v s = then_do (with_conversion b x v s) (λ v s. then_do (act b line (Accepts v) s) (λ v s. Gives (Returns v) s))
+return_with b line None v s = Gives Falls s
 
 -- 6.7.9p11: a store of an initializer, with its value
 abbrev pub stored_value : Setting → (object : ℕ) → Store → StoredValue → Worth → State → Res Worth
-stored_value b o x (ValueOf e) v s = then_do (handed b e v s) (λ v s. act b x.line (Puts o x.offset (lvalue b x.t) v) s)
+stored_value b o x (ValueOf e) v s = then_do (accepted_value b e v s) (λ v s. act b x.line (Puts o x.offset (lvalue b x.t) v) s)
 stored_value b o x (TextOf l) v s = Gives Nothing s
 
 -- 6.7.9p11, p19: the stores that are left, with the value of the first of them
-abbrev pub stored : Setting → Calling → (object : ℕ) → List Store → Worth → State → Res Flow
-stored b call o [] v s = Gives Falls s
-stored b call o (x ∷ xs) v s = then_do (then_do (stored_value b o x x.what v s) (λ v s. store_all b call o xs s)) (λ v s. Gives Falls s)
+abbrev pub rest_of_stores : Setting → Calling → (object : ℕ) → List Store → Worth → State → Res Flow
+rest_of_stores b call o [] v s = Gives Falls s
+rest_of_stores b call o (x ∷ xs) v s = then_do (then_do (stored_value b o x x.what v s) (λ v s. store_all b call o xs s)) (λ v s. Gives Falls s)
 
 -- 6.8.5.3: what stands within a `for` with a declaration
 abbrev pub declarations_of : TypedStatement → Option Statements
@@ -69,12 +69,12 @@ within b w None l s = Gives Falls s
 
 -- 6.8.6p2: with how a statement was left, beside the expressions that wait
 unfoldable pub after_flow : Setting → Stored → (level : ℕ) → List Started → Task → Flow → State → Res Reached
-after_flow b u k es (task.InList l i) fl s = left (falls fl (λ s. exs b (below b k) (statements_from u l i) s) s)
-after_flow b u k es (task.InBlock n) fl s = left (then_do (end_all b (declared_of (statement_at u n)) s) (λ v s. Gives fl s))
-after_flow b u k es task.InSwitch fl s = left (switched fl s)
-after_flow b u k es (task.Declared n) fl s = left (falls fl (rounds b (below b k) (loop_of (statement_at u n))) s)
-after_flow b u k es (task.Rounded n) fl s = left (rounded b (below b k) (loop_of (statement_at u n)) fl s)
-after_flow b u k es (task.RoundedDo n) fl s = left (rounded_do b (below b k) (do_of (statement_at u n)) fl s)
+after_flow b u k es (task.InList l i) fl s = left_flow (falls fl (λ s. exs b (below b k) (statements_from u l i) s) s)
+after_flow b u k es (task.InBlock n) fl s = left_flow (then_do (end_all b (declared_of (statement_at u n)) s) (λ v s. Gives fl s))
+after_flow b u k es task.InSwitch fl s = left_flow (behind_switch fl s)
+after_flow b u k es (task.Declared n) fl s = left_flow (falls fl (rounds b (below b k) (loop_of (statement_at u n))) s)
+after_flow b u k es (task.Rounded n) fl s = left_flow (rest_of_loop b (below b k) (loop_of (statement_at u n)) fl s)
+after_flow b u k es (task.RoundedDo n) fl s = left_flow (rounded_do b (below b k) (do_of (statement_at u n)) fl s)
 after_flow b u k es (task.InCall f line) fl s =
     then_do (end_all b (function_at b.unit f).params s) (λ v s. then_do (act b line EndsBody s) (λ v s.
     then_do (answered_of b (below b k).call u es (value_by b (function_at b.unit f) fl) s) (λ g s. Gives (Valued g.value) s)))
@@ -90,15 +90,15 @@ after_flow b u k es (task.Storing o i) fl s = Gives (Left fl) s
 
 -- 6.8p4: with the value of an expression
 unfoldable pub after_value : Setting → Stored → (level : ℕ) → Task → Worth → State → Res Reached
-after_value b u k task.Dropping v s = left (Gives Falls s)
-after_value b u k (task.Chosen n) v s = left (chosen b (below b k) (choice_of (statement_at u n)) v s)
-after_value b u k (task.First n) v s = left (rounds b (below b k) (loop_of (statement_at u n)) s)
-after_value b u k (task.Tested n) v s = left (tested b (below b k) (loop_of (statement_at u n)) v s)
-after_value b u k (task.Stepped n) v s = let l = loop_of (statement_at u n) in left ((below b k).again l.condition l.step l.body s)
-after_value b u k (task.TestedDo n) v s = left (tested_do b (below b k) (do_of (statement_at u n)) v s)
-after_value b u k (task.Selecting n) v s = left (selected b (below b k) (selection_of (statement_at u n)) v s)
-after_value b u k (task.Returning n) v s = left (returned b (statement_line (statement_at u n)) (returned_of (statement_at u n)) v s)
-after_value b u k (task.Storing o i) v s = left (stored b (below b k).call o (drop i (object_at b.unit o).inits) v s)
+after_value b u k task.Dropping v s = left_flow (Gives Falls s)
+after_value b u k (task.Chosen n) v s = left_flow (branch_of b (below b k) (choice_of (statement_at u n)) v s)
+after_value b u k (task.First n) v s = left_flow (rounds b (below b k) (loop_of (statement_at u n)) s)
+after_value b u k (task.Tested n) v s = left_flow (loop_from_test b (below b k) (loop_of (statement_at u n)) v s)
+after_value b u k (task.Stepped n) v s = let l = loop_of (statement_at u n) in left_flow ((below b k).again l.condition l.step l.body s)
+after_value b u k (task.TestedDo n) v s = left_flow (tested_do b (below b k) (do_of (statement_at u n)) v s)
+after_value b u k (task.Selecting n) v s = left_flow (selection_jump b (below b k) (selection_of (statement_at u n)) v s)
+after_value b u k (task.Returning n) v s = left_flow (return_with b (statement_line (statement_at u n)) (returned_of (statement_at u n)) v s)
+after_value b u k (task.Storing o i) v s = left_flow (rest_of_stores b (below b k).call o (drop i (object_at b.unit o).inits) v s)
 after_value b u k (task.InList l i) v s = Gives (Valued v) s
 after_value b u k (task.InBlock n) v s = Gives (Valued v) s
 after_value b u k task.InSwitch v s = Gives (Valued v) s

@@ -13,7 +13,7 @@ use Rattle.pv_exec.specs.declared.once.After.TheVariants as after
 use Rattle.pv_exec.specs.declared.task.Task.{Task}
 use Rattle.pv_exec.specs.declared.task.Doing.{Doing}
 use Rattle.pv_exec.specs.Tasks.{Reached}
-use Rattle.pv_exec.specs.Works.{due, asked, others, Holds}
+use Rattle.pv_exec.specs.Works.{due, turn_due, others, Holds}
 use Rattle.pv_exec.specs.Leading.{HoldsAfter, LastIs}
 use Rattle.pv_exec.specs.Fits.{Runs, DoingFits}
 
@@ -31,7 +31,7 @@ DueAfter es (Err e) = Unit {0}
 
 -- the same, or an expression of a loop was not started
 abbrev pub AskedAfter : List Started → Result After Failure → Type 0
-AskedAfter es (Ok (after.On d)) = asked es d ≡ 1
+AskedAfter es (Ok (after.On d)) = turn_due es d ≡ 1
 AskedAfter es (Ok (after.Last l)) = Unit {0}
 AskedAfter es (Err e) = Unit {0}
 
@@ -50,7 +50,7 @@ AdvancedLed u n d (Err failure.NoMemory) ts ts' old new = Unit {0}
 
 -- where the run goes on, what waits names what is there (6.8), and another turn is due, or an expression of a loop was not started
 abbrev pub AdvancedRuns : Stored → List Task → List Started → Result After Failure → Type 0
-AdvancedRuns u ts es (Ok (after.On d)) = Runs u ts es d × Fit u es × (asked es d ≡ 1)
+AdvancedRuns u ts es (Ok (after.On d)) = Runs u ts es d × Fit u es × (turn_due es d ≡ 1)
 AdvancedRuns u ts es (Ok (after.Last l)) = Unit {0}
 AdvancedRuns u ts es (Err e) = Unit {0}
 

@@ -1,7 +1,7 @@
 // Calls of the program's functions (C17 6.5.2.2, 6.9.1).
 ghost use Rattle.std.specs.Prelude.{◌≡◌, ◌+◌, ◌<◌, map, length, true, OnOk};
 ghost use Rattle.pv_typed.specs.TypedUnits.{function_at};
-ghost use Rattle.pv_typed.specs.Tables.{whole};
+ghost use Rattle.pv_typed.specs.Tables.{whole_unit};
 ghost use Rattle.pv_world.specs.Coming.{worth_of};
 ghost use Rattle.pv_eval.specs.Moments.{Always, Stays, state_of};
 ghost use Rattle.pv_eval.specs.MachineSteps.{Fit};
@@ -12,7 +12,7 @@ ghost use Rattle.pv_exec.specs.Calls.{take_params};
 ghost use Rattle.pv_exec.specs.Leading.{FlowLed};
 ghost use Rattle.pv_exec.specs.Fits.{WayFitsOr};
 ghost use Rattle.pv_exec.specs.Quickness.{QuickOr, EndsOr};
-ghost use Rattle.pv_exec.specs.Called.{takes_one, begun, BodyIs, CallLed, CallEnded};
+ghost use Rattle.pv_exec.specs.Called.{takes_one, body_beginning, BodyIs, CallLed, CallEnded};
 
 use crate::blocks::end_each;
 use crate::functions::value_by;
@@ -53,7 +53,7 @@ fn take_parameters(
     requires runnable { IsRunnable unit.now }
     requires there { f < length unit.now.functions }
     ensures made { Always unit.now machine.old.moment (λ b out es.
-        Made (take_params b line (function_at (whole unit.now) f).params (map worth_of arguments.now) (state_of machine.old.moment out es)) result (state_of machine.new.moment out es)) }
+        Made (take_params b line (function_at (whole_unit unit.now) f).params (map worth_of arguments.now) (state_of machine.old.moment out es)) result (state_of machine.new.moment out es)) }
     ensures started { machine.new.started ≡ machine.old.started }
     ensures stays { Stays machine.old.moment machine.new.moment }
 {
@@ -82,7 +82,7 @@ pub fn begin_function(
 ) -> Result<(), Failure>
     requires runnable { IsRunnable unit.now }
     requires there { f < length unit.now.functions }
-    ensures made { Always unit.now machine.old.moment (λ b out es. Made (begun b line (function_at (whole unit.now) f) (map worth_of arguments.now) (state_of machine.old.moment out es)) result (state_of machine.new.moment out es)) }
+    ensures made { Always unit.now machine.old.moment (λ b out es. Made (body_beginning b line (function_at (whole_unit unit.now) f) (map worth_of arguments.now) (state_of machine.old.moment out es)) result (state_of machine.new.moment out es)) }
     ensures started { machine.new.started ≡ machine.old.started }
     ensures stays { Stays machine.old.moment machine.new.moment }
 {

@@ -2,7 +2,7 @@
 ghost use Rattle.std.specs.Prelude.{◌≡◌};
 ghost use Rattle.pv_world.specs.Worths.{int_of};
 ghost use Rattle.pv_world.specs.Coming.{worth_of, wrong_for};
-ghost use Rattle.pv_exec.specs.Run.{status_of, refused, stopped};
+ghost use Rattle.pv_exec.specs.Run.{status_of, outcome_of_refusal, outcome_of_stop};
 ghost use Rattle.pv_exec.specs.Ending.{outcome_by};
 
 use crate::outcome::Outcome;
@@ -34,7 +34,7 @@ fn status(v: &Got) -> i32
 
 // A request for an instance was refused.
 fn refused(name: u32, e: CreateError, line: u32) -> Option<Outcome>
-    ensures { result ≡ refused name e line }
+    ensures { result ≡ outcome_of_refusal name e line }
 {
     match e {
         CreateError::Storage { live, size } => Some(Outcome::Storage { live, size, line }),
@@ -67,7 +67,7 @@ fn refused(name: u32, e: CreateError, line: u32) -> Option<Outcome>
 
 // An operation ended the run.
 fn stopped(cause: Cause, line: u32) -> Option<Outcome>
-    ensures { result ≡ stopped (wrong_for cause) line }
+    ensures { result ≡ outcome_of_stop (wrong_for cause) line }
 {
     match cause {
         Cause::Ends(verdict) => Some(Outcome::Ends { verdict, line }),

@@ -12,9 +12,9 @@ ghost use Rattle.pv_eval.specs.Runnable.{IsRunnable};
 ghost use Rattle.pv_exec.specs.Calls.{below};
 ghost use Rattle.pv_exec.specs.Execution.{ex};
 ghost use Rattle.pv_exec.specs.Flows.{Below};
-ghost use Rattle.pv_exec.specs.Tasks.{left};
+ghost use Rattle.pv_exec.specs.Tasks.{left_flow};
 ghost use Rattle.pv_exec.specs.Leading.{LeadsOr, Led, EnterLed, entered_at};
-ghost use Rattle.pv_exec.specs.Entering.{entered, is_labelled, is_block_tree, is_for_tree};
+ghost use Rattle.pv_exec.specs.Entering.{behind_turn, is_labelled, is_block_tree, is_for_tree};
 ghost use Rattle.pv_exec.specs.Fits.{WayFitsOr, IsScope, HasList};
 
 use crate::blocks::make_objects;
@@ -174,7 +174,7 @@ fn begin_switch(
     requires condition { IsExpression unit.now c }
     requires form { statement_at unit.now n ≡ Switch (statement_line (statement_at unit.now n)) (expression_at unit.now c) (statement_at unit.now x) }
     requires fit { Fit unit.now machine.old.started }
-    ensures led { (b : Setting) (k : ℕ) (s : State) → b.bound < s.taken + k → LeadsOr b unit.now (left (entered b (below b k) (statement_at unit.now n) s)) machine.old.started result machine.new.started s }
+    ensures led { (b : Setting) (k : ℕ) (s : State) → b.bound < s.taken + k → LeadsOr b unit.now (left_flow (behind_turn b (below b k) (statement_at unit.now n) s)) machine.old.started result machine.new.started s }
     ensures moment { machine.new.moment ≡ machine.old.moment }
     ensures fit { OnOk result (Fit unit.now machine.new.started) }
     ensures ways { WayFitsOr unit.now machine.old.started machine.new.started result }

@@ -4,7 +4,7 @@ ghost use Rattle.std.specs.Cmp.Lexicographic.{pointwise};
 ghost use Rattle.pv_types.specs.Known.{tree};
 ghost use Rattle.pv_typed.specs.TypedUnits.{function_at};
 ghost use Rattle.pv_typed.specs.Mains.{main_text, named_main};
-ghost use Rattle.pv_typed.specs.Tables.{whole};
+ghost use Rattle.pv_typed.specs.Tables.{whole_unit};
 ghost use Rattle.pv_world.specs.Coming.{worth_of};
 ghost use Rattle.pv_eval.specs.States.{Setting};
 ghost use Rattle.pv_eval.specs.TypeForms.{gives_none};
@@ -56,7 +56,7 @@ fn is_main(text: &[u8]) -> bool
 pub fn names_main(unit: &TypedUnit, f: u32) -> bool
     requires runnable { IsRunnable unit.now }
     requires there { f < length unit.now.functions }
-    ensures { result ≡ named_main unit.now.names (function_at (whole unit.now) f).name }
+    ensures { result ≡ named_main unit.now.names (function_at (whole_unit unit.now) f).name }
 {
     is_main(unit.names().text(unit.function(f).name))
 }
@@ -64,7 +64,7 @@ pub fn names_main(unit: &TypedUnit, f: u32) -> bool
 fn value_at_end(unit: &TypedUnit, f: u32) -> Got
     requires runnable { IsRunnable unit.now }
     requires there { f < length unit.now.functions }
-    ensures { (b : Setting) → b.unit ≡ whole unit.now → worth_of result ≡ value_at_end b (function_at b.unit f) }
+    ensures { (b : Setting) → b.unit ≡ whole_unit unit.now → worth_of result ≡ value_at_end b (function_at b.unit f) }
 {
     if names_main(unit, f) {
         return Got::Scalar(Value::Int(0));
@@ -80,7 +80,7 @@ fn value_at_end(unit: &TypedUnit, f: u32) -> Got
 pub fn value_by(unit: &TypedUnit, f: u32, flow: Flow) -> Got
     requires runnable { IsRunnable unit.now }
     requires there { f < length unit.now.functions }
-    ensures { (b : Setting) → b.unit ≡ whole unit.now → worth_of result ≡ value_by b (function_at b.unit f) (flow_of flow) }
+    ensures { (b : Setting) → b.unit ≡ whole_unit unit.now → worth_of result ≡ value_by b (function_at b.unit f) (flow_of flow) }
 {
     match flow {
         Flow::Returns(v) => v.take(),

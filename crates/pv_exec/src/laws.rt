@@ -4,7 +4,7 @@ ghost use Rattle.std.specs.declared.option.Option.{Option};
 ghost use Rattle.pv_script.specs.Lines.{ScriptLine};
 ghost use Rattle.pv_typed.specs.Known.{AreKnown};
 ghost use Rattle.pv_typed.specs.Mains.{main_of};
-ghost use Rattle.pv_typed.specs.Tables.{Stored, whole};
+ghost use Rattle.pv_typed.specs.Tables.{Stored, whole_unit};
 ghost use Rattle.pv_eval.specs.States.{end_of};
 ghost use Rattle.pv_exec.specs.declared.outcome.Outcome.TheVariants as outcome;
 ghost use Rattle.pv_exec.specs.Run.{outcome_of};
@@ -45,7 +45,7 @@ pub fn late_settling_is_right()
 /// A law of the types of a unit that has a function: each completed structure and union has a byte (C17 6.2.6.1p2, 6.7.2.1p8).
 pub(crate) fn no_empty_tag(unit: &TypedUnit)
     requires known { AreKnown unit.now }
-    requires main { IsTrue (is_some (main_of (whole unit.now))) }
+    requires main { IsTrue (is_some (main_of (whole_unit unit.now))) }
     ensures { HasNoEmptyTag unit.now }
 {
     let function = unit.function(0);

@@ -3,7 +3,7 @@ ghost use Rattle.std.specs.Prelude.{◌≡◌, ◌≤◌, ◌^◌, IsTrue, is_so
 ghost use Rattle.pv_script.specs.Outside.{Gains, GainsPrefix};
 ghost use Rattle.pv_typed.specs.Known.{Each};
 ghost use Rattle.pv_typed.specs.Mains.{main_of};
-ghost use Rattle.pv_typed.specs.Tables.{whole};
+ghost use Rattle.pv_typed.specs.Tables.{whole_unit};
 ghost use Rattle.pv_eval.specs.Runnable.{IsRunnable};
 ghost use Rattle.pv_exec.specs.Run.{setting_of, run_of};
 ghost use Rattle.pv_exec.specs.Stages.{stage_of};
@@ -118,7 +118,7 @@ pub fn run<O: Sink>(
     hall: &mut Hall,
 ) -> Result<Ran, RunError>
     requires runnable { IsRunnable u.now }
-    requires main { IsTrue (is_some (main_of (whole u.now))) }
+    requires main { IsTrue (is_some (main_of (whole_unit u.now))) }
     requires bound { bound ≤ 10 ^ 8 }
     ensures ran { IfOk result (RanAs (run_of (setting_of u.now bound (highs sides.entry (λ x. x.now)) zap) script)) }
     ensures gains { OnOk result (Gains (O.written out.old) (O.written out.new) (end_at u.now bound (highs sides.entry (λ x. x.now)) zap script).output) }

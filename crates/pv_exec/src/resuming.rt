@@ -5,7 +5,7 @@ ghost use Rattle.pv_eval.specs.MachineSteps.{Fit};
 ghost use Rattle.pv_eval.specs.Machines.{is_ended, after_first};
 ghost use Rattle.pv_eval.specs.Runnable.{IsRunnable};
 ghost use Rattle.pv_exec.specs.Tasks.{takes_value};
-ghost use Rattle.pv_exec.specs.Works.{passed};
+ghost use Rattle.pv_exec.specs.Works.{behind_call};
 ghost use Rattle.pv_exec.specs.Leading.{FlowLed, TaskLed};
 ghost use Rattle.pv_exec.specs.Fits.{TaskFits, Stands, WayFitsOr};
 ghost use Rattle.pv_exec.specs.Quickness.{QuickOr};
@@ -37,7 +37,7 @@ pub fn resume_flow(
     ensures led { FlowLed unit.now task flow result machine.old machine.new }
     ensures stays { Stays machine.old.moment machine.new.moment }
     ensures fit { OnOk result (Fit unit.now machine.new.started) }
-    ensures ways { WayFitsOr unit.now (passed task machine.old.started) machine.new.started result }
+    ensures ways { WayFitsOr unit.now (behind_call task machine.old.started) machine.new.started result }
     ensures quick { QuickOr machine.new.started result }
 {
     match task {
@@ -71,7 +71,7 @@ fn pass_value(unit: &TypedUnit, task: Task, machine: &mut Machine) -> Result<Way
     ensures led { TaskLed unit.now task result machine.old machine.new }
     ensures stays { Stays machine.old.moment machine.new.moment }
     ensures fit { OnOk result (Fit unit.now machine.new.started) }
-    ensures ways { WayFitsOr unit.now (passed task (after_first machine.old.started)) machine.new.started result }
+    ensures ways { WayFitsOr unit.now (behind_call task (after_first machine.old.started)) machine.new.started result }
     ensures quick { QuickOr machine.new.started result }
 {
     let v = machine.value();
@@ -91,7 +91,7 @@ pub fn resume_value(unit: &TypedUnit, task: Task, machine: &mut Machine) -> Resu
     ensures led { TaskLed unit.now task result machine.old machine.new }
     ensures stays { Stays machine.old.moment machine.new.moment }
     ensures fit { OnOk result (Fit unit.now machine.new.started) }
-    ensures ways { WayFitsOr unit.now (passed task (after_first machine.old.started)) machine.new.started result }
+    ensures ways { WayFitsOr unit.now (behind_call task (after_first machine.old.started)) machine.new.started result }
     ensures quick { QuickOr machine.new.started result }
 {
     match task {

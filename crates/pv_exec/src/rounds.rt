@@ -4,13 +4,13 @@ ghost use Rattle.pv_typed.specs.Tables.{nodes};
 ghost use Rattle.pv_typed.specs.NodeTrees.{statement_at, IsExpression, IsStatement};
 ghost use Rattle.pv_typed.specs.Nodes.{optional_in};
 ghost use Rattle.pv_eval.specs.MachineSteps.{Fit};
-ghost use Rattle.pv_eval.specs.Machines.{ended, is_ended, after_first};
+ghost use Rattle.pv_eval.specs.Machines.{ended_value, is_ended, after_first};
 ghost use Rattle.pv_eval.specs.Moments.{Stays};
 ghost use Rattle.pv_eval.specs.States.{Setting, State};
 ghost use Rattle.pv_eval.specs.Runnable.{IsRunnable};
 ghost use Rattle.pv_exec.specs.Calls.{below};
-ghost use Rattle.pv_exec.specs.Tasks.{left};
-ghost use Rattle.pv_exec.specs.Parts.{loop_of, rounded, stepped_on, line_of_condition};
+ghost use Rattle.pv_exec.specs.Tasks.{left_flow};
+ghost use Rattle.pv_exec.specs.Parts.{loop_of, rest_of_loop, stepped_on, line_of_condition};
 ghost use Rattle.pv_exec.specs.Works.{flow_of};
 ghost use Rattle.pv_exec.specs.Leading.{LeadsOr, Led, DoingLed, tested_at};
 ghost use Rattle.pv_exec.specs.Quickness.{QuickOr, EndsOr};
@@ -29,7 +29,7 @@ pub fn begin_again(unit: &TypedUnit, n: NodeId, machine: &mut Machine) -> Result
     requires there { IsStatement unit.now n }
     requires fit { Fit unit.now machine.old.started }
     ensures led { (b : Setting) (k : ℕ) (s : State) → s.taken ≤ b.bound → b.bound < s.taken + k →
-        LeadsOr b unit.now (left ((below b k).again (loop_of (statement_at unit.now n)).condition (loop_of (statement_at unit.now n)).step (loop_of (statement_at unit.now n)).body s)) machine.old.started result machine.new.started s }
+        LeadsOr b unit.now (left_flow ((below b k).again (loop_of (statement_at unit.now n)).condition (loop_of (statement_at unit.now n)).step (loop_of (statement_at unit.now n)).body s)) machine.old.started result machine.new.started s }
     ensures moment { machine.new.moment ≡ machine.old.moment }
     ensures fit { OnOk result (Fit unit.now machine.new.started) }
     ensures ways { WayFitsOr unit.now machine.old.started machine.new.started result }
@@ -58,7 +58,7 @@ pub fn round_again(unit: &TypedUnit, n: NodeId, machine: &mut Machine) -> Result
     requires there { IsStatement unit.now n }
     requires fit { Fit unit.now machine.old.started }
     ensures led { (b : Setting) (k : ℕ) (s : State) → s.taken ≤ b.bound → b.bound < s.taken + k →
-        LeadsOr b unit.now (left ((below b k).again (loop_of (statement_at unit.now n)).condition (loop_of (statement_at unit.now n)).step (loop_of (statement_at unit.now n)).body s)) machine.old.started result machine.new.started s }
+        LeadsOr b unit.now (left_flow ((below b k).again (loop_of (statement_at unit.now n)).condition (loop_of (statement_at unit.now n)).step (loop_of (statement_at unit.now n)).body s)) machine.old.started result machine.new.started s }
     ensures moment { machine.new.moment ≡ machine.old.moment }
     ensures fit { OnOk result (Fit unit.now machine.new.started) }
     ensures ways { WayFitsOr unit.now machine.old.started machine.new.started result }
@@ -96,7 +96,7 @@ pub fn begin_body(
 pub fn round_goes_on(unit: &TypedUnit, n: NodeId, machine: &mut Machine) -> Result<Way, Failure>
     requires there { IsStatement unit.now n }
     requires fit { Fit unit.now machine.old.started }
-    ensures led { (b : Setting) (k : ℕ) (s : State) → s.taken ≤ b.bound → b.bound < s.taken + k → LeadsOr b unit.now (left (stepped_on b (below b k) (loop_of (statement_at unit.now n)) s)) machine.old.started result machine.new.started s }
+    ensures led { (b : Setting) (k : ℕ) (s : State) → s.taken ≤ b.bound → b.bound < s.taken + k → LeadsOr b unit.now (left_flow (stepped_on b (below b k) (loop_of (statement_at unit.now n)) s)) machine.old.started result machine.new.started s }
     ensures moment { machine.new.moment ≡ machine.old.moment }
     ensures fit { OnOk result (Fit unit.now machine.new.started) }
     ensures ways { WayFitsOr unit.now machine.old.started machine.new.started result }
@@ -124,7 +124,7 @@ fn behind_body(step: Option<NodeId>, parts: RoundParts) -> Doing
 pub fn go_round(unit: &TypedUnit, n: NodeId, machine: &mut Machine) -> Result<Way, Failure>
     requires there { IsStatement unit.now n }
     requires fit { Fit unit.now machine.old.started }
-    ensures led { (b : Setting) (k : ℕ) (s : State) → s.taken ≤ b.bound → b.bound < s.taken + k → LeadsOr b unit.now (left (stepped_on b (below b k) (loop_of (statement_at unit.now n)) s)) machine.old.started result machine.new.started s }
+    ensures led { (b : Setting) (k : ℕ) (s : State) → s.taken ≤ b.bound → b.bound < s.taken + k → LeadsOr b unit.now (left_flow (stepped_on b (below b k) (loop_of (statement_at unit.now n)) s)) machine.old.started result machine.new.started s }
     ensures moment { machine.new.moment ≡ machine.old.moment }
     ensures fit { OnOk result (Fit unit.now machine.new.started) }
     ensures ways { WayFitsOr unit.now machine.old.started machine.new.started result }
@@ -165,7 +165,7 @@ pub fn after_body(
     requires there { IsStatement unit.now n }
     requires fit { Fit unit.now machine.old.started }
     ensures led { (b : Setting) (k : ℕ) (s : State) → s.taken ≤ b.bound → b.bound < s.taken + k →
-        LeadsOr b unit.now (left (rounded b (below b k) (loop_of (statement_at unit.now n)) (flow_of flow) s)) machine.old.started result machine.new.started s }
+        LeadsOr b unit.now (left_flow (rest_of_loop b (below b k) (loop_of (statement_at unit.now n)) (flow_of flow) s)) machine.old.started result machine.new.started s }
     ensures moment { machine.new.moment ≡ machine.old.moment }
     ensures fit { OnOk result (Fit unit.now machine.new.started) }
     ensures ways { WayFitsOr unit.now machine.old.started machine.new.started result }
@@ -196,7 +196,7 @@ pub fn after_condition(unit: &TypedUnit, n: NodeId, machine: &mut Machine) -> Re
     requires there { IsStatement unit.now n }
     requires ended { is_ended machine.old.started ≡ true }
     requires fit { Fit unit.now machine.old.started }
-    ensures led { Led unit.now (tested_at unit.now n (ended machine.old.started)) (after_first machine.old.started) result machine.old machine.new }
+    ensures led { Led unit.now (tested_at unit.now n (ended_value machine.old.started)) (after_first machine.old.started) result machine.old machine.new }
     ensures stays { Stays machine.old.moment machine.new.moment }
     ensures fit { Fit unit.now machine.new.started }
     ensures ways { WayFitsOr unit.now (after_first machine.old.started) machine.new.started result }

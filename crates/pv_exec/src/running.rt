@@ -1,15 +1,15 @@
 // The statements of a run, from the call of `main` to its end (C17 5.1.2.2).
 ghost use Rattle.std.specs.Prelude.{◌≡◌, ◌<◌, ◌≤◌, ◌^◌, [], length, IsTrue, is_some};
 ghost use Rattle.pv_typed.specs.Mains.{main_of};
-ghost use Rattle.pv_typed.specs.Tables.{whole};
+ghost use Rattle.pv_typed.specs.Tables.{whole_unit};
 ghost use Rattle.pv_eval.specs.MachineSteps.{Fit};
 ghost use Rattle.pv_eval.specs.Runnable.{IsRunnable};
 ghost use Rattle.pv_eval.specs.Codes.{AreCodes};
 ghost use Rattle.pv_exec.specs.Answering.{outlet};
 ghost use Rattle.pv_exec.specs.Fits.{Runs};
-ghost use Rattle.pv_exec.specs.Works.{asked};
+ghost use Rattle.pv_exec.specs.Works.{turn_due};
 ghost use Rattle.pv_exec.specs.Streaming.{DeliveryCause};
-ghost use Rattle.pv_exec.specs.Running.{StatementsLed, EndLed, PieceLed, IsCalm, main_called, whole_run, failed};
+ghost use Rattle.pv_exec.specs.Running.{StatementsLed, EndLed, PieceLed, IsCalm, main_called, whole_run, failure_of};
 
 use crate::blocks::end_each;
 use crate::calls::{begin_function, body_of};
@@ -60,10 +60,10 @@ fn run_statements<O: Sink>(
     requires bound { bound ≤ 10 ^ 8 }
     requires runs { Runs unit.now [] machine.old.started doing }
     requires fit { Fit unit.now machine.old.started }
-    requires asked { asked machine.old.started doing ≡ 1 }
+    requires asked { turn_due machine.old.started doing ≡ 1 }
     requires fresh { machine.old.moment.taken ≡ 0 }
     ensures ended { StatementsLed unit.now (outlet (O.written out.old) hall.old its_kind its_wants seen) (outlet (O.written out.new) hall.new its_kind its_wants seen) bound doing result machine.old machine.new }
-    ensures cause { DeliveryCause (failed result) (O.faults out.old) (O.faults out.new) }
+    ensures cause { DeliveryCause (failure_of result) (O.faults out.old) (O.faults out.new) }
 {
     let mut tasks = Vec::new(alloc);
     let mut doing = doing;
@@ -115,7 +115,7 @@ fn run_main<O: Sink>(
     requires fresh { machine.old.moment.taken ≡ 0 }
     requires none { machine.old.started ≡ [] }
     ensures ended { PieceLed unit.now (outlet (O.written out.old) hall.old its_kind its_wants seen) (outlet (O.written out.new) hall.new its_kind its_wants seen) bound (main_called f) result machine.old machine.new }
-    ensures cause { DeliveryCause (failed result) (O.faults out.old) (O.faults out.new) }
+    ensures cause { DeliveryCause (failure_of result) (O.faults out.old) (O.faults out.new) }
 {
     match begin_function(unit, f, unit.function(f).line, &[], machine) {
         Ok(()) => {}
@@ -151,12 +151,12 @@ pub fn run_unit<O: Sink>(
 ) -> Result<Ended, Broken>
     requires codes { AreCodes unit.now plan.now }
     requires runnable { IsRunnable unit.now }
-    requires main { IsTrue (is_some (main_of (whole unit.now))) }
+    requires main { IsTrue (is_some (main_of (whole_unit unit.now))) }
     requires bound { bound ≤ 10 ^ 8 }
     requires fresh { machine.old.moment.taken ≡ 0 }
     requires none { machine.old.started ≡ [] }
     ensures ended { PieceLed unit.now (outlet (O.written out.old) hall.old its_kind its_wants seen) (outlet (O.written out.new) hall.new its_kind its_wants seen) bound whole_run result machine.old machine.new }
-    ensures cause { DeliveryCause (failed result) (O.faults out.old) (O.faults out.new) }
+    ensures cause { DeliveryCause (failure_of result) (O.faults out.old) (O.faults out.new) }
 {
     match prepare(unit, machine) {
         Ok(()) => run_main(alloc, unit, plan, unit.main(), bound, machine, out, hall),

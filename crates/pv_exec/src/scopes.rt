@@ -5,8 +5,8 @@ ghost use Rattle.pv_eval.specs.MachineSteps.{Fit};
 ghost use Rattle.pv_eval.specs.Moments.{Stays};
 ghost use Rattle.pv_eval.specs.States.{Setting, State};
 ghost use Rattle.pv_eval.specs.Runnable.{IsRunnable};
-ghost use Rattle.pv_exec.specs.Flows.{switched};
-ghost use Rattle.pv_exec.specs.Tasks.{left};
+ghost use Rattle.pv_exec.specs.Flows.{behind_switch};
+ghost use Rattle.pv_exec.specs.Tasks.{left_flow};
 ghost use Rattle.pv_exec.specs.Works.{flow_of};
 ghost use Rattle.pv_exec.specs.Leading.{Leads, Led, block_left};
 ghost use Rattle.pv_eval.specs.Machines.{Started};
@@ -44,7 +44,7 @@ pub fn after_block(
 
 /// A switch is left (C17 6.8.6.3).
 pub fn after_switch(flow: Flow) -> Way
-    ensures led { (b : Setting) (u : Stored) (k : ℕ) (es : List Started) (s : State) → b.bound < s.taken + k → Leads b u (left (switched (flow_of flow) s)) es result es s }
+    ensures led { (b : Setting) (u : Stored) (k : ℕ) (es : List Started) (s : State) → b.bound < s.taken + k → Leads b u (left_flow (behind_switch (flow_of flow) s)) es result es s }
     ensures ways { (u : Stored) (es : List Started) → WayFits u es es result × Quick es result }
 {
     match flow {

@@ -6,8 +6,8 @@ ghost use Rattle.pv_typed.specs.NodeTrees.{expression_at, statement_at, IsExpres
 ghost use Rattle.pv_eval.specs.MachineSteps.{Fit};
 ghost use Rattle.pv_eval.specs.States.{Setting, State, Res, then_do};
 ghost use Rattle.pv_exec.specs.Calls.{below};
-ghost use Rattle.pv_exec.specs.Flows.{full};
-ghost use Rattle.pv_exec.specs.Tasks.{takes_value, Reached, left, after_value};
+ghost use Rattle.pv_exec.specs.Flows.{full_expression};
+ghost use Rattle.pv_exec.specs.Tasks.{takes_value, Reached, left_flow, after_value};
 ghost use Rattle.pv_exec.specs.Parts.{loop_of, rounds};
 ghost use Rattle.pv_exec.specs.Works.{is_call};
 ghost use Rattle.pv_exec.specs.Leading.{LeadsOr};
@@ -34,7 +34,7 @@ pub fn evaluate(machine: &mut Machine, task: Task, e: NodeId) -> Result<Way, Fai
     requires task { is_call task ≡ false }
     requires value { takes_value task ≡ true }
     ensures led { (b : Setting) (u : Stored) (k : ℕ) (s : State) (all : Res Reached) → b.bound < s.taken + k + 1 →
-        all ≡ then_do (full b (below b k).call (expression_at u e) s) (after_value b u k task) → LeadsOr b u all machine.old.started result machine.new.started s }
+        all ≡ then_do (full_expression b (below b k).call (expression_at u e) s) (after_value b u k task) → LeadsOr b u all machine.old.started result machine.new.started s }
     ensures moment { machine.new.moment ≡ machine.old.moment }
     ensures fit { (u : Stored) → IsExpression u e → Fit u machine.old.started → OnOk result (Fit u machine.new.started) }
     ensures ways { (u : Stored) → TaskFits u task → WayFitsOr u machine.old.started machine.new.started result }
@@ -112,7 +112,7 @@ fn no_parts(n: NodeId) -> Parts
 pub fn begin_round(unit: &TypedUnit, n: NodeId, machine: &mut Machine) -> Result<Way, Failure>
     requires there { IsStatement unit.now n }
     requires fit { Fit unit.now machine.old.started }
-    ensures led { (b : Setting) (k : ℕ) (s : State) → b.bound < s.taken + k + 1 → LeadsOr b unit.now (left (rounds b (below b k) (loop_of (statement_at unit.now n)) s)) machine.old.started result machine.new.started s }
+    ensures led { (b : Setting) (k : ℕ) (s : State) → b.bound < s.taken + k + 1 → LeadsOr b unit.now (left_flow (rounds b (below b k) (loop_of (statement_at unit.now n)) s)) machine.old.started result machine.new.started s }
     ensures moment { machine.new.moment ≡ machine.old.moment }
     ensures fit { OnOk result (Fit unit.now machine.new.started) }
     ensures ways { WayFitsOr unit.now machine.old.started machine.new.started result }

@@ -1,7 +1,7 @@
 // The stores of initializers of automatic objects (C17 6.7.9).
 ghost use Rattle.std.specs.Prelude.{◌≡◌, ◌+◌, ◌<◌, ◌^◌, ◌∷◌, ℕ, List, length, drop, true, OnOk};
 ghost use Rattle.pv_typed.specs.TypedUnits.{object_at};
-ghost use Rattle.pv_typed.specs.Tables.{nodes, whole, store_in};
+ghost use Rattle.pv_typed.specs.Tables.{nodes, whole_unit, store_in};
 ghost use Rattle.pv_typed.specs.Formed.{HasValue};
 ghost use Rattle.pv_world.specs.Coming.{worth_of};
 ghost use Rattle.pv_eval.specs.States.{Setting, State, Gives, then_do};
@@ -12,7 +12,7 @@ ghost use Rattle.pv_eval.specs.Runnable.{IsRunnable};
 ghost use Rattle.pv_exec.specs.Flows.{Falls};
 ghost use Rattle.pv_exec.specs.Lists.{store_all};
 ghost use Rattle.pv_exec.specs.Calls.{below};
-ghost use Rattle.pv_exec.specs.Tasks.{left};
+ghost use Rattle.pv_exec.specs.Tasks.{left_flow};
 ghost use Rattle.pv_exec.specs.Works.{does, others};
 ghost use Rattle.pv_exec.specs.Leading.{ValueLed, DoingLed};
 ghost use Rattle.pv_exec.specs.Putting.{PutLed};
@@ -29,7 +29,7 @@ use pv_world::Got;
 pub fn init_at(unit: &TypedUnit, o: u32, i: usize) -> Init
     requires runnable { IsRunnable unit.now }
     requires there { HasStore unit.now o i }
-    ensures store { drop i (object_at (whole unit.now) o).inits ≡ store_in unit.now.known (nodes unit.now) result ∷ drop (i + 1) (object_at (whole unit.now) o).inits }
+    ensures store { drop i (object_at (whole_unit unit.now) o).inits ≡ store_in unit.now.known (nodes unit.now) result ∷ drop (i + 1) (object_at (whole_unit unit.now) o).inits }
     ensures value { HasValue unit.now result.what }
     ensures typed { result.t.0 < length unit.now.known.terms }
 {
@@ -39,8 +39,8 @@ pub fn init_at(unit: &TypedUnit, o: u32, i: usize) -> Init
 // After a store of an initializer the next one.
 fn next_store(unit: &TypedUnit, o: u32, i: usize) -> Doing
     requires there { HasStore unit.now o i }
-    ensures does { (b : Setting) (k : ℕ) (es : List Started) (s : State) → b.unit ≡ whole unit.now →
-        does b unit.now k es result s ≡ left (then_do (store_all b (below b k).call o (drop (i + 1) (object_at b.unit o).inits) s) (λ v s. Gives Falls s)) }
+    ensures does { (b : Setting) (k : ℕ) (es : List Started) (s : State) → b.unit ≡ whole_unit unit.now →
+        does b unit.now k es result s ≡ left_flow (then_do (store_all b (below b k).call o (drop (i + 1) (object_at b.unit o).inits) s) (λ v s. Gives Falls s)) }
     ensures fits { (es : List Started) → DoingFits unit.now es result × (others es result ≡ es) × Quick es (Way.Do result) }
 {
     let count = unit.inits(o).len();

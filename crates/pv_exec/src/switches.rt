@@ -9,7 +9,7 @@ ghost use Rattle.pv_eval.specs.Runnable.{IsRunnable};
 ghost use Rattle.pv_exec.specs.Labels.{is_target};
 ghost use Rattle.pv_exec.specs.Calls.{below};
 ghost use Rattle.pv_exec.specs.Parts.{selection_of, selection_by, items_of, jumps};
-ghost use Rattle.pv_exec.specs.Tasks.{statements_from, left};
+ghost use Rattle.pv_exec.specs.Tasks.{statements_from, left_flow};
 ghost use Rattle.pv_exec.specs.Leading.{Leads, ValueLed, DoingLed};
 ghost use Rattle.pv_exec.specs.Fits.{WayFits, WayFitsOr, HasList, IsScope};
 ghost use Rattle.pv_exec.specs.Quickness.{Quick, QuickOr};
@@ -215,7 +215,7 @@ fn switch_parts(unit: &TypedUnit, n: NodeId) -> Option<SwitchParts>
 // To the label for this value, or behind the `switch`.
 fn jump_to(unit: &TypedUnit, parts: SwitchParts, v: i128) -> Way
     requires there { SelectionFits unit.now parts }
-    ensures led { (b : Setting) (k : ℕ) (es : List Started) (s : State) → b.bound < s.taken + k → Leads b unit.now (left (jumps b (below b k) v (selection_in unit.now parts).block s)) es result es s }
+    ensures led { (b : Setting) (k : ℕ) (es : List Started) (s : State) → b.bound < s.taken + k → Leads b unit.now (left_flow (jumps b (below b k) v (selection_in unit.now parts).block s)) es result es s }
     ensures ways { (es : List Started) → WayFits unit.now es es result × Quick es result }
 {
     match target(unit, parts.items, v) {

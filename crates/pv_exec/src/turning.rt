@@ -11,7 +11,7 @@ ghost use Rattle.pv_eval.specs.Codes.{AreCodes};
 ghost use Rattle.pv_exec.specs.Parts.{choice_of, items_of};
 ghost use Rattle.pv_exec.specs.Read.{choice_in, ChoiceFits, IsRound, IsStep, items_read};
 ghost use Rattle.pv_exec.specs.Tasks.{returned_of};
-ghost use Rattle.pv_exec.specs.Works.{due, asked};
+ghost use Rattle.pv_exec.specs.Works.{due, turn_due};
 ghost use Rattle.pv_exec.specs.Fits.{HasList, Runs, DoingFits, AfterRuns};
 ghost use Rattle.pv_exec.specs.Turning.{UntilDueLed, AdvancedLed, CutBefore, ComesAtOnce, DueAfter, AskedAfter, AdvancedRuns, AdvancedPace};
 
@@ -47,7 +47,7 @@ fn is_due(doing: &Doing, machine: &Machine) -> bool
 
 // Whether a turn is due, or an expression of a loop was not started.
 fn is_asked(doing: &Doing, machine: &Machine) -> bool
-    ensures { asked machine.now.started doing.now ≡ (if result then 1 else 0) }
+    ensures { turn_due machine.now.started doing.now ≡ (if result then 1 else 0) }
 {
     match doing {
         Doing::Enter(_) => true,
@@ -508,7 +508,7 @@ pub fn advance(
     requires bound { bound ≤ 10 ^ 8 }
     requires runs { Runs unit.now tasks.old.items machine.old.started doing }
     requires fit { Fit unit.now machine.old.started }
-    requires asked { asked machine.old.started doing ≡ 1 }
+    requires asked { turn_due machine.old.started doing ≡ 1 }
     ensures holds { AdvancedLed unit.now bound doing result tasks.old.items tasks.new.items machine.old machine.new }
     ensures setting { KeepsSetting machine.old.moment machine.new.moment }
     ensures runs { AdvancedRuns unit.now tasks.new.items machine.new.started result }

@@ -22,8 +22,8 @@ place_of (Tried pair test low high) = 4
 place_of (Fault verdict low high pair) = 5
 
 -- how many events of the memory model of this kind were seen
-abbrev pub counted : List Event → ℕ → ℕ
-counted seen place = length (filter (λ (e : Event). place_of e.what == place) seen)
+abbrev pub events_of_kind : List Event → ℕ → ℕ
+events_of_kind seen place = length (filter (λ (e : Event). place_of e.what == place) seen)
 
 -- the line of a kind (docs/FORMATS.md, What watchers say; memory model)
 abbrev pub count_line : List ℕ → ℕ → List ℕ
@@ -33,8 +33,8 @@ count_line word n = line (word ++ codes " " ++ decimal n)
 -- worked: all_counted, all_counted_cut, unknown_counted, unknown_counted_cut, faults_counted, faults_counted_cut, none_counted
 abbrev pub census_text : List Event → List ℕ
 census_text seen =
-    count_line (codes "create") (counted seen 0) ++ count_line (codes "end") (counted seen 1) ++ count_line (codes "expose") (counted seen 2)
-    ++ count_line (codes "pair") (counted seen 3) ++ count_line (codes "use") (counted seen 4) ++ count_line (codes "fault") (counted seen 5)
+    count_line (codes "create") (events_of_kind seen 0) ++ count_line (codes "end") (events_of_kind seen 1) ++ count_line (codes "expose") (events_of_kind seen 2)
+    ++ count_line (codes "pair") (events_of_kind seen 3) ++ count_line (codes "use") (events_of_kind seen 4) ++ count_line (codes "fault") (events_of_kind seen 5)
 
 -- ---- the pairs, and their uses
 
@@ -93,32 +93,32 @@ concerning s passed (e ∷ es) =
     else concerning s passed es
 
 -- the lines of what led to the fault (3.4.3), or that there is none
-abbrev pub explained : List Event → List (List ℕ) → Option Suspects → List ℕ
-explained seen names None = line (codes "no fault")
-explained seen names (Some s) = event_lines seen names (concerning s false seen)
+abbrev pub explanation : List Event → List (List ℕ) → Option Suspects → List ℕ
+explanation seen names None = line (codes "no fault")
+explanation seen names (Some s) = event_lines seen names (concerning s false seen)
 
 -- what led to the first fault (3.4.3) that was seen
 -- worked: all_explained, all_explained_cut, unknown_explained, unknown_explained_cut, faults_explained, faults_explained_cut, none_explained
 abbrev pub explain_text : List Event → List (List ℕ) → List ℕ
-explain_text seen names = explained seen names (first_told suspects_of seen)
+explain_text seen names = explanation seen names (first_told suspects_of seen)
 
 -- ---- the kinds of watchers
 
 -- as many events as wanted were seen, so that later ones may be missing (docs/FORMATS.md, What watchers say; memory model)
-abbrev pub cut : ℕ → List Event → List ℕ
-cut wants seen = if length seen == wants then line (codes "cut") else []
+abbrev pub cut_line : ℕ → List Event → List ℕ
+cut_line wants seen = if length seen == wants then line (codes "cut") else []
 
 -- the memory model: kind 1 (docs/FORMATS.md, What watchers say) tells the story of a fault (3.4.3)
 abbrev pub story_kind : Kind
-story_kind = record { number = 1; text = λ wants seen names. explain_text seen names ++ cut wants seen }
+story_kind = record { number = 1; text = λ wants seen names. explain_text seen names ++ cut_line wants seen }
 
 -- the memory model: kind 2 counts the events
 abbrev pub census_kind : Kind
-census_kind = record { number = 2; text = λ wants seen names. census_text seen ++ cut wants seen }
+census_kind = record { number = 2; text = λ wants seen names. census_text seen ++ cut_line wants seen }
 
 -- the memory model: kind 3 tells the life of each pair
 abbrev pub pointers_kind : Kind
-pointers_kind = record { number = 3; text = λ wants seen names. pointers_text seen names ++ cut wants seen }
+pointers_kind = record { number = 3; text = λ wants seen names. pointers_text seen names ++ cut_line wants seen }
 
 -- the memory model: kind 4 keeps a journal (docs/FORMATS.md, Journals)
 abbrev pub journal_kind : Kind

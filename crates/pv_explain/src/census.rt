@@ -1,7 +1,7 @@
 //! How many events of each kind there were.
 ghost use Rattle.std.specs.Prelude.{◌≡◌, ◌<◌, ◌++◌, [], IfOk, OnOk};
 ghost use Rattle.pv_watch.specs.Slots.{watcher, Present};
-ghost use Rattle.pv_explain.specs.Texts.{place_of, counted, count_line, census_text, census_kind};
+ghost use Rattle.pv_explain.specs.Texts.{place_of, events_of_kind, count_line, census_text, census_kind};
 
 use crate::log::Log;
 use pv_script::Names;
@@ -77,7 +77,7 @@ fn place_of(what: &What) -> u8
 
 /// How many events are of a kind.
 fn counted(seen: &[Event], place: u8) -> usize
-    ensures { result ≡ counted seen.now place }
+    ensures { result ≡ events_of_kind seen.now place }
 {
     seen.iter().filter(|e| place_of(&e.what) == place).count()
 }
@@ -90,7 +90,7 @@ fn add_count(
     seen: &[Event],
     place: u8,
 ) -> Result<(), NoMemory>
-    ensures { OnOk result (text.new.items ≡ text.old.items ++ count_line word.now (counted seen.now place)) }
+    ensures { OnOk result (text.new.items ≡ text.old.items ++ count_line word.now (events_of_kind seen.now place)) }
 {
     let count = counted(seen, place);
     let line = format!(in alloc; "{word} {count}\n")?;

@@ -3,7 +3,7 @@ ghost use Rattle.std.specs.Prelude.{◌≡◌, ◌++◌, [], if◌then◌else◌
 ghost use Rattle.std.specs.Fmt.{decimal};
 ghost use Rattle.pv_print.specs.Texts.{address_text};
 ghost use Rattle.pv_prov.specs.TestNumbers.{test_text};
-ghost use Rattle.pv_watch.specs.Lines.{named, instance_text, survivors, survivors_of, first_told, making_of_pair, field, what_text};
+ghost use Rattle.pv_watch.specs.Lines.{text_of_instance, instance_text, survivors, survivors_of, first_told, making_of_pair, field, what_text};
 ghost use Rattle.pv_watch.specs.LineParts.{event_line};
 ghost use Rattle.pv_watch.specs.declared.event.What.TheVariants.{Made, Pair, Tried};
 ghost use Rattle.pv_explain.specs.Told.{survivor};
@@ -62,7 +62,7 @@ fn add_address(alloc: Global, text: &mut Vec<u8>, word: &[u8], a: u64) -> Result
 impl Known<'_> {
     /// Adds an instance's name, and which of this name it is.
     fn add_name(&self, text: &mut Vec<u8>, name: u32, k: u64) -> Result<(), NoMemory>
-        ensures { OnOk result (text.new.items ≡ text.old.items ++ named self.now.names (Some (name, k))) }
+        ensures { OnOk result (text.new.items ≡ text.old.items ++ text_of_instance self.now.names (Some (name, k))) }
     {
         if name >= self.names.len() {
             text.push(b'?')?;

@@ -14,7 +14,7 @@ pub(crate) struct Log {
 
 impl Log {
     ghost use Rattle.pv_watch.specs.Adding.{Sees};
-    ghost use Rattle.pv_explain.specs.Texts.{cut};
+    ghost use Rattle.pv_explain.specs.Texts.{cut_line};
 
     /// Nothing is seen yet, which takes no memory.
     pub(crate) fn new(alloc: Global, wants: u64) -> Log
@@ -52,7 +52,7 @@ impl Log {
 
     /// Adds the line which says that later events may be missing, if they may.
     pub(crate) fn add_cut(&self, text: &mut Vec<u8>) -> Result<(), NoMemory>
-        ensures { OnOk result (text.new.items ≡ text.old.items ++ cut self.now.wants self.now.seen.items) }
+        ensures { OnOk result (text.new.items ≡ text.old.items ++ cut_line self.now.wants self.now.seen.items) }
     {
         if self.has_enough() {
             text.extend_from_slice(b"cut\n")?;

@@ -10,8 +10,8 @@ use Rattle.pv_tree.specs.Levels.{rank}
 use Rattle.pv_tree.specs.Spells.{Names, begins_type}
 use Rattle.pv_expr_forms.specs.declared.follows.Prefix.{Prefix}
 use Rattle.pv_expr_forms.specs.declared.follows.Prefix.TheVariants as prefix
-use Rattle.pv_expr_forms.specs.Follows.{prefix_of, prefix_operand, prefixed}
-use Rattle.pv_expr_forms.specs.Reader.{Read, Reads, is_close, after, texts_in_row, closed, cast_to, opened, fronted, measured, opens_type, sized, head_of, head}
+use Rattle.pv_expr_forms.specs.Follows.{prefix_of, prefix_operand, prefix_tree}
+use Rattle.pv_expr_forms.specs.Reader.{Read, Reads, is_close, after, texts_in_row, paren_end, cast_to, behind_open, prefix_behind, sizeof_named_type, opens_type, sizeof_behind, head_of, head}
 use Rattle.pv_expr_forms.proofs.Steps.{guarded, unless, mapped, followed, some_is}
 
 tight_at : (x : ExpressionTree × List Token) (b : ExpressionTree) (rest : List Token) → x ≡ (b, rest) → 14 ≤ rank x.0 → 14 ≤ rank b
@@ -26,15 +26,15 @@ unary = omega arith
 cast : 14 ≤ 14
 cast = omega arith
 
-prefixed_tight : (line : ℕ) (op : Prefix) (a : ExpressionTree) → 14 ≤ rank (prefixed line op a)
+prefixed_tight : (line : ℕ) (op : Prefix) (a : ExpressionTree) → 14 ≤ rank (prefix_tree line op a)
 prefixed_tight line prefix.Increment a = unary
 prefixed_tight line prefix.Decrement a = unary
 prefixed_tight line prefix.Sizeof a = unary
 prefixed_tight line (prefix.Unary op) a = unary
 
 module _ (names : Names) (r : Reads) (below : ℕ) where
-  closed_tight : (line : ℕ) (a : ExpressionTree) (ts : List Token) (b : ExpressionTree) (rest : List Token) → closed line a ts ≡ Some (b, rest) → 14 ≤ rank b
-  unfolding closed
+  closed_tight : (line : ℕ) (a : ExpressionTree) (ts : List Token) (b : ExpressionTree) (rest : List Token) → paren_end line a ts ≡ Some (b, rest) → 14 ≤ rank b
+  unfolding paren_end
   closed_tight line a ts b rest e =
       let m = mapped _ (after is_close ts) (b, rest) e in
       tight_at (Paren line a, m.0) b rest m.2 primary
@@ -48,32 +48,32 @@ module _ (names : Names) (r : Reads) (below : ℕ) where
       tight_at (Cast line type m.0.0, m.0.1) b rest m.2 cast
 
   opened_tight : (begins : Bool) (line : ℕ) (ts : List Token) (b : ExpressionTree) (rest : List Token)
-      → cond begins (option_and_then (λ x. cast_to r below line x.0 x.1) (names.type_at ts)) (option_and_then (λ x. closed line x.0 x.1) (r 1 ts)) ≡ Some (b, rest) → 14 ≤ rank b
+      → cond begins (option_and_then (λ x. cast_to r below line x.0 x.1) (names.type_at ts)) (option_and_then (λ x. paren_end line x.0 x.1) (r 1 ts)) ≡ Some (b, rest) → 14 ≤ rank b
   opened_tight true line ts b rest e =
       let f = followed (λ (x : DeclarationTree × List Token). cast_to r below line x.0 x.1) (names.type_at ts) (b, rest) e in
       cast_tight line f.0.0 f.0.1 b rest f.2
   opened_tight false line ts b rest e =
-      let f = followed (λ (x : ExpressionTree × List Token). closed line x.0 x.1) (r 1 ts) (b, rest) e in
+      let f = followed (λ (x : ExpressionTree × List Token). paren_end line x.0 x.1) (r 1 ts) (b, rest) e in
       closed_tight line f.0.0 f.0.1 b rest f.2
 
-  fronted_tight : (line : ℕ) (o : Option Prefix) (ts : List Token) (b : ExpressionTree) (rest : List Token) → fronted r line o ts ≡ Some (b, rest) → 14 ≤ rank b
-  unfolding fronted
+  fronted_tight : (line : ℕ) (o : Option Prefix) (ts : List Token) (b : ExpressionTree) (rest : List Token) → prefix_behind r line o ts ≡ Some (b, rest) → 14 ≤ rank b
+  unfolding prefix_behind
   fronted_tight line None ts b rest e = absurd cc
   fronted_tight line (Some op) ts b rest e =
       let m = mapped _ (r (prefix_operand op) ts) (b, rest) e in
-      tight_at (prefixed line op m.0.0, m.0.1) b rest m.2 (prefixed_tight line op m.0.0)
+      tight_at (prefix_tree line op m.0.0, m.0.1) b rest m.2 (prefixed_tight line op m.0.0)
 
-  measured_tight : (line : ℕ) (type : DeclarationTree) (ts : List Token) (b : ExpressionTree) (rest : List Token) → measured below line type ts ≡ Some (b, rest) → 14 ≤ rank b
-  unfolding measured
+  measured_tight : (line : ℕ) (type : DeclarationTree) (ts : List Token) (b : ExpressionTree) (rest : List Token) → sizeof_named_type below line type ts ≡ Some (b, rest) → 14 ≤ rank b
+  unfolding sizeof_named_type
   measured_tight line type ts b rest e =
       let g = guarded _ (option_map (λ (x : List Token). let y : ExpressionTree × List Token = (SizeofType line type, x) in y) (after is_close ts)) (b, rest) e in
       let m = mapped (λ (x : List Token). let y : ExpressionTree × List Token = (SizeofType line type, x) in y) (after is_close ts) (b, rest) g.1 in
       tight_at (SizeofType line type, m.0) b rest m.2 unary
 
   sized_tight : (begins : Bool) (line : ℕ) (ts : List Token) (b : ExpressionTree) (rest : List Token)
-      → cond begins (option_and_then (λ x. measured below line x.0 x.1) (names.type_at (drop 1 ts))) (fronted r line (Some prefix.Sizeof) ts) ≡ Some (b, rest) → 14 ≤ rank b
+      → cond begins (option_and_then (λ x. sizeof_named_type below line x.0 x.1) (names.type_at (drop 1 ts))) (prefix_behind r line (Some prefix.Sizeof) ts) ≡ Some (b, rest) → 14 ≤ rank b
   sized_tight true line ts b rest e =
-      let f = followed (λ (x : DeclarationTree × List Token). measured below line x.0 x.1) (names.type_at (drop 1 ts)) (b, rest) e in
+      let f = followed (λ (x : DeclarationTree × List Token). sizeof_named_type below line x.0 x.1) (names.type_at (drop 1 ts)) (b, rest) e in
       measured_tight line f.0.0 f.0.1 b rest f.2
   sized_tight false line ts b rest e = fronted_tight line (Some prefix.Sizeof) ts b rest e
 
@@ -86,7 +86,7 @@ module _ (names : Names) (r : Reads) (below : ℕ) where
       leaf_tight (Name line n, ts) b rest primary g.1
 
   head_of_tight : (line : ℕ) (k : TokenKind) (ts : List Token) (b : ExpressionTree) (rest : List Token) → head_of names r below line k ts ≡ Some (b, rest) → 14 ≤ rank b
-  unfolding head_of opened sized
+  unfolding head_of behind_open sizeof_behind
   head_of_tight line (kind.Name n) ts b rest e = named_tight line n ts b rest e
   head_of_tight line (kind.Number value decimal unsigned longs) ts b rest e = leaf_tight (Number line value decimal unsigned longs, ts) b rest primary e
   head_of_tight line (kind.Character value) ts b rest e = leaf_tight (Character line value, ts) b rest primary e

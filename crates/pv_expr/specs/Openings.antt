@@ -6,9 +6,9 @@ use Rattle.pv_tree.specs.declared.nodes.NodeId.{NodeId}
 use Rattle.pv_tree.specs.Spells.{Names}
 use Rattle.pv_tree.specs.Syntax.{ExpressionTree, Cast, DeclarationTree}
 use Rattle.pv_tree.specs.Tables.{Forest, Tables, declaration_at, is_declaration, Is}
-use Rattle.pv_expr_forms.specs.Follows.{prefix_operand, prefixed}
+use Rattle.pv_expr_forms.specs.Follows.{prefix_operand, prefix_tree}
 use Rattle.pv_expr_forms.specs.Parts.{leaf_of, measures_type}
-use Rattle.pv_expr_forms.specs.Reader.{Read, Reads, closed, head_of}
+use Rattle.pv_expr_forms.specs.Reader.{Read, Reads, paren_end, head_of}
 use Rattle.pv_expr.specs.declared.nodes.Opening.{Opening}
 use Rattle.pv_expr.specs.declared.nodes.Opening.TheVariants as opening
 
@@ -24,14 +24,14 @@ IsOpening u (opening.Cast name) = Is u is_declaration name
 IsOpening u _ = Unit {0}
 
 -- 6.5.1p1, 6.5.3p1, 6.5.4p1: the tree that it makes of an operand, with the tokens behind
-unfoldable pub enclosed : Forest → (line : ℕ) → Opening → ExpressionTree → List Token → Read
-enclosed f line opening.Paren a ts = closed line a ts
-enclosed f line (opening.Cast name) a ts = Some (Cast line (declaration_at f name) a, ts)
-enclosed f line (opening.Operator op) a ts = Some (prefixed line op a, ts)
+unfoldable pub opening_tree : Forest → (line : ℕ) → Opening → ExpressionTree → List Token → Read
+opening_tree f line opening.Paren a ts = paren_end line a ts
+opening_tree f line (opening.Cast name) a ts = Some (Cast line (declaration_at f name) a, ts)
+opening_tree f line (opening.Operator op) a ts = Some (prefix_tree line op a, ts)
 
 -- what reading an operand behind an opening gives (6.5.1p1, 6.5.3p1, 6.5.4p1)
 abbrev pub opened_by : Forest → Reads → (line : ℕ) → Opening → List Token → Read
-opened_by f read line form ts = option_and_then (λ x. enclosed f line form x.0 x.1) (read (operand_of form) ts)
+opened_by f read line form ts = option_and_then (λ x. opening_tree f line form x.0 x.1) (read (operand_of form) ts)
 
 -- a token of a kind, which ends at a place and measures no type, opens this before an operand, or nothing: it is an operand itself (6.5.1p1, 6.5.3p1, 6.5.4p1)
 abbrev pub OpensAt : Names → (is_type : ℕ → Bool) → Tables → List Token → TokenKind → (at below : ℕ) → Option (Opening × ℕ) → Type 0

@@ -8,12 +8,12 @@ ghost use Rattle.pv_tree.specs.Lines.{expression_line};
 ghost use Rattle.pv_tree.specs.Nodes.{expression_of};
 ghost use Rattle.pv_tree.specs.Syntax.{Member, Arrow};
 ghost use Rattle.pv_tree.specs.Tables.{expression_at, declaration_at, arguments_of, is_expression, is_declaration, Is, Extends};
-ghost use Rattle.pv_expr_forms.specs.Follows.{joined, prefixed};
-ghost use Rattle.pv_expr_forms.specs.Parts.{leaf_of, named};
-ghost use Rattle.pv_expr_forms.specs.Reader.{closed, indexed};
+ghost use Rattle.pv_expr_forms.specs.Follows.{join_tree, prefix_tree};
+ghost use Rattle.pv_expr_forms.specs.Parts.{leaf_of, made_with_name};
+ghost use Rattle.pv_expr_forms.specs.Reader.{paren_end, index_end};
 ghost use Rattle.pv_expr_forms.specs.Answers.{AnswersAt};
-ghost use Rattle.pv_expr.specs.Going.{operand_level, suffixed, combined, called_with, GoesOnAt};
-ghost use Rattle.pv_expr.specs.Openings.{operand_of, IsOpening, enclosed};
+ghost use Rattle.pv_expr.specs.Going.{operand_level, with_suffix, with_right, called_with, GoesOnAt};
+ghost use Rattle.pv_expr.specs.Openings.{operand_of, IsOpening, opening_tree};
 
 use indexmap::IndexSet;
 use pv_expr_forms::{
@@ -161,7 +161,7 @@ pub(crate) fn leaf(
 }
 
 /// What stands in parentheses, whose inside ends at a place (C17 6.5.1p5).
-#[tactic(auto, using(pv_tree::proofs::Kept::extends_same), unfolding(pv_expr_forms::specs::Reader::closed))]
+#[tactic(auto, using(pv_tree::proofs::Kept::extends_same), unfolding(pv_expr_forms::specs::Reader::paren_end))]
 fn close(
     tokens: &Tokens,
     at: u32,
@@ -172,7 +172,7 @@ fn close(
     requires place { at ≤ length tokens.now.tokens }
     requires inside { Is into.old is_expression inside }
     ensures keeps { Extends into.old into.new }
-    ensures ok { AnswersAt into.new tokens.now.tokens at result (closed line (expression_at into.old.forest inside)) }
+    ensures ok { AnswersAt into.new tokens.now.tokens at result (paren_end line (expression_at into.old.forest inside)) }
 {
     match after_close(tokens, at) {
         Some(next) => found(tokens, next, Expr::Paren(inside), line, into),
@@ -181,7 +181,7 @@ fn close(
 }
 
 /// An element, whose index ends at a place (C17 6.5.2.1).
-#[tactic(auto, using(pv_tree::proofs::Kept::extends_same), unfolding(pv_expr_forms::specs::Reader::indexed))]
+#[tactic(auto, using(pv_tree::proofs::Kept::extends_same), unfolding(pv_expr_forms::specs::Reader::index_end))]
 fn index(
     tokens: &Tokens,
     at: u32,
@@ -193,7 +193,7 @@ fn index(
     requires array { Is into.old is_expression array }
     requires index { Is into.old is_expression index }
     ensures keeps { Extends into.old into.new }
-    ensures ok { AnswersAt into.new tokens.now.tokens at result (indexed (expression_at into.old.forest array) (expression_at into.old.forest index)) }
+    ensures ok { AnswersAt into.new tokens.now.tokens at result (index_end (expression_at into.old.forest array) (expression_at into.old.forest index)) }
 {
     match after_bracket(tokens, at) {
         Some(next) => {
@@ -205,7 +205,7 @@ fn index(
 }
 
 /// A member, whose name stands at a place (C17 6.5.2.3p1).
-#[tactic(auto, using(pv_tree::proofs::Kept::extends_same), unfolding(pv_expr_forms::specs::Parts::named))]
+#[tactic(auto, using(pv_tree::proofs::Kept::extends_same), unfolding(pv_expr_forms::specs::Parts::made_with_name))]
 fn member(
     tokens: &Tokens,
     typedefs: &IndexSet<u32>,
@@ -216,7 +216,7 @@ fn member(
     requires place { at ≤ length tokens.now.tokens }
     requires whole { Is into.old is_expression whole }
     ensures keeps { Extends into.old into.new }
-    ensures ok { AnswersAt into.new tokens.now.tokens at result (named (contains nat_eq typedefs.now) (Member (expression_line (expression_at into.old.forest whole)) (expression_at into.old.forest whole))) }
+    ensures ok { AnswersAt into.new tokens.now.tokens at result (made_with_name (contains nat_eq typedefs.now) (Member (expression_line (expression_at into.old.forest whole)) (expression_at into.old.forest whole))) }
 {
     match name_next(tokens, typedefs, at) {
         Some((name, next)) => {
@@ -228,7 +228,7 @@ fn member(
 }
 
 /// A member behind a pointer, whose name stands at a place (C17 6.5.2.3p2).
-#[tactic(auto, using(pv_tree::proofs::Kept::extends_same), unfolding(pv_expr_forms::specs::Parts::named))]
+#[tactic(auto, using(pv_tree::proofs::Kept::extends_same), unfolding(pv_expr_forms::specs::Parts::made_with_name))]
 fn arrow(
     tokens: &Tokens,
     typedefs: &IndexSet<u32>,
@@ -239,7 +239,7 @@ fn arrow(
     requires place { at ≤ length tokens.now.tokens }
     requires pointer { Is into.old is_expression pointer }
     ensures keeps { Extends into.old into.new }
-    ensures ok { AnswersAt into.new tokens.now.tokens at result (named (contains nat_eq typedefs.now) (Arrow (expression_line (expression_at into.old.forest pointer)) (expression_at into.old.forest pointer))) }
+    ensures ok { AnswersAt into.new tokens.now.tokens at result (made_with_name (contains nat_eq typedefs.now) (Arrow (expression_line (expression_at into.old.forest pointer)) (expression_at into.old.forest pointer))) }
 {
     match name_next(tokens, typedefs, at) {
         Some((name, next)) => {
@@ -251,7 +251,7 @@ fn arrow(
 }
 
 /// The tree of an operand, which ends at a place, and of what stands before it.
-#[tactic(auto, unfolding(crate::specs::Openings::enclosed))]
+#[tactic(auto, unfolding(crate::specs::Openings::opening_tree))]
 pub(crate) fn enclosed(
     tokens: &Tokens,
     at: u32,
@@ -264,7 +264,7 @@ pub(crate) fn enclosed(
     requires form { IsOpening into.old form }
     requires operand { Is into.old is_expression operand }
     ensures keeps { Extends into.old into.new }
-    ensures ok { AnswersAt into.new tokens.now.tokens at result (enclosed into.old.forest line form (expression_at into.old.forest operand)) }
+    ensures ok { AnswersAt into.new tokens.now.tokens at result (opening_tree into.old.forest line form (expression_at into.old.forest operand)) }
 {
     match form {
         Opening::Paren => close(tokens, at, operand, line, into),
@@ -313,7 +313,7 @@ pub(crate) fn operand_level(follow: Follow) -> Option<u8>
 }
 
 /// The tree that goes on from a tree without any further tree (C17 6.5.2.3, 6.5.2.4).
-#[tactic(auto, using(pv_tree::proofs::Kept::extends_same), unfolding(crate::specs::Going::suffixed))]
+#[tactic(auto, using(pv_tree::proofs::Kept::extends_same), unfolding(crate::specs::Going::with_suffix))]
 pub(crate) fn suffixed(
     tokens: &Tokens,
     typedefs: &IndexSet<u32>,
@@ -325,7 +325,7 @@ pub(crate) fn suffixed(
     requires place { at ≤ length tokens.now.tokens }
     requires tree { Is into.old is_expression tree }
     ensures keeps { Extends into.old into.new }
-    ensures ok { AnswersAt into.new tokens.now.tokens at result (suffixed (contains nat_eq typedefs.now) (expression_at into.old.forest tree) follow) }
+    ensures ok { AnswersAt into.new tokens.now.tokens at result (with_suffix (contains nat_eq typedefs.now) (expression_at into.old.forest tree) follow) }
 {
     let line = line_of(into, tree);
     match follow {
@@ -339,7 +339,7 @@ pub(crate) fn suffixed(
 
 /// The tree that goes on from a tree with one operand, which ends at a place (C17 6.5.2.1, 6.5.5
 /// to 6.5.14, 6.5.16, 6.5.17).
-#[tactic(auto, using(pv_tree::proofs::Kept::extends_same), unfolding(crate::specs::Going::combined))]
+#[tactic(auto, using(pv_tree::proofs::Kept::extends_same), unfolding(crate::specs::Going::with_right))]
 pub(crate) fn combined(
     tokens: &Tokens,
     at: u32,
@@ -352,7 +352,7 @@ pub(crate) fn combined(
     requires left { Is into.old is_expression left }
     requires right { Is into.old is_expression right }
     ensures keeps { Extends into.old into.new }
-    ensures ok { AnswersAt into.new tokens.now.tokens at result (combined (expression_at into.old.forest left) (expression_at into.old.forest right) follow) }
+    ensures ok { AnswersAt into.new tokens.now.tokens at result (with_right (expression_at into.old.forest left) (expression_at into.old.forest right) follow) }
 {
     match follow {
         Follow::Join(op) => joined(tokens, at, op, left, right, into),
@@ -373,7 +373,7 @@ fn prefixed(
     requires place { at ≤ length tokens.now.tokens }
     requires operand { Is into.old is_expression operand }
     ensures keeps { Extends into.old into.new }
-    ensures ok { AnswersAt into.new tokens.now.tokens at result (λ ts. Some (prefixed line op (expression_at into.old.forest operand), ts)) }
+    ensures ok { AnswersAt into.new tokens.now.tokens at result (λ ts. Some (prefix_tree line op (expression_at into.old.forest operand), ts)) }
 {
     let expr = match op {
         Prefix::Increment => Expr::PreIncrement(operand),
@@ -398,7 +398,7 @@ fn joined(
     requires left { Is into.old is_expression left }
     requires right { Is into.old is_expression right }
     ensures keeps { Extends into.old into.new }
-    ensures ok { AnswersAt into.new tokens.now.tokens at result (λ ts. Some (joined op (expression_at into.old.forest left) (expression_at into.old.forest right), ts)) }
+    ensures ok { AnswersAt into.new tokens.now.tokens at result (λ ts. Some (join_tree op (expression_at into.old.forest left) (expression_at into.old.forest right), ts)) }
 {
     let line = line_of(into, left);
     let expr = match op {

@@ -1,7 +1,7 @@
 //! Reading an expression from the left, by the levels of its operators.
 ghost use Rattle.std.specs.Prelude.{Some, option_and_then};
 ghost use Rattle.pv_tree.specs.Tables.{expression_at, is_expression, Is};
-ghost use Rattle.pv_expr_forms.specs.Reader.{read, head, grown, longer, asked, called, measured};
+ghost use Rattle.pv_expr_forms.specs.Reader.{read, head, longest_tree, longer_tree, third_operand, call_behind, sizeof_named_type};
 ghost use Rattle.pv_expr_forms.specs.Sources.{known_names, IsReady, ReadsFrom};
 
 use crate::nodes::{
@@ -78,7 +78,7 @@ fn measure<R: TypeReader>(
     into: &mut Unit,
 ) -> Result<Option<(NodeId, u32)>, NoMemory>
     requires { IsReady R.types source.now into.old at }
-    ensures { ReadsFrom source.now at into.old into.new result (λ ts. option_and_then (λ x. measured below line x.0 x.1) ((known_names R.types source.now into.old).type_at ts)) }
+    ensures { ReadsFrom source.now at into.old into.new result (λ ts. option_and_then (λ x. sizeof_named_type below line x.0 x.1) ((known_names R.types source.now into.old).type_at ts)) }
 {
     match type_closed(source, at, below, into) {
         Some((name, next)) => { found(source.tokens, next, Expr::SizeofType(name), line, into) }
@@ -99,7 +99,7 @@ fn grow<R: TypeReader>(
     requires ready { IsReady R.types source.now into.old at }
     requires node { Is into.old is_expression first }
     ensures { let names = known_names R.types source.now into.old in
-        ReadsFrom source.now at into.old into.new result (λ ts. Some (grown names (read names below) level below (expression_at into.old.forest first) ts)) }
+        ReadsFrom source.now at into.old into.new result (λ ts. Some (longest_tree names (read names below) level below (expression_at into.old.forest first) ts)) }
 {
     let mut left = first;
     let mut next = at;
@@ -127,7 +127,7 @@ fn extend<R: TypeReader>(
     requires ready { IsReady R.types source.now into.old at }
     requires node { Is into.old is_expression left }
     ensures { let names = known_names R.types source.now into.old in
-        ReadsFrom source.now at into.old into.new result (longer names (read names below) level below (expression_at into.old.forest left)) }
+        ReadsFrom source.now at into.old into.new result (longer_tree names (read names below) level below (expression_at into.old.forest left)) }
 {
     let Some(follow) = follow_at(source.tokens, at, left, level, below, into) else {
         return Ok(None);
@@ -149,7 +149,7 @@ fn extend<R: TypeReader>(
 
 // A conditional expression, whose middle operand ends at the place (C17 6.5.15).
 #[cycle(reading)]
-#[tactic(auto, unfolding(pv_expr_forms::specs::Reader::asked))]
+#[tactic(auto, unfolding(pv_expr_forms::specs::Reader::third_operand))]
 fn ask<R: TypeReader>(
     source: &Source<'_, R>,
     at: u32,
@@ -161,7 +161,7 @@ fn ask<R: TypeReader>(
     requires ready { IsReady R.types source.now into.old at }
     requires condition { Is into.old is_expression condition }
     requires yes { Is into.old is_expression yes }
-    ensures { ReadsFrom source.now at into.old into.new result (asked (read (known_names R.types source.now into.old) below) (expression_at into.old.forest condition) (expression_at into.old.forest yes)) }
+    ensures { ReadsFrom source.now at into.old into.new result (third_operand (read (known_names R.types source.now into.old) below) (expression_at into.old.forest condition) (expression_at into.old.forest yes)) }
 {
     let Some(next) = after_colon(source.tokens, at) else {
         return Ok(None);
@@ -192,7 +192,7 @@ fn arguments<R: TypeReader>(
 ) -> Result<Option<(NodeId, u32)>, NoMemory>
     requires ready { IsReady R.types source.now into.old at }
     requires node { Is into.old is_expression callee }
-    ensures { ReadsFrom source.now at into.old into.new result (called (read (known_names R.types source.now into.old) below) (expression_at into.old.forest callee)) }
+    ensures { ReadsFrom source.now at into.old into.new result (call_behind (read (known_names R.types source.now into.old) below) (expression_at into.old.forest callee)) }
 {
     if let Some(next) = after_close(source.tokens, at) {
         return call(source.tokens, next, callee, &[], into);

@@ -12,8 +12,8 @@ use Rattle.pv_tree.specs.Nodes.{expression_of}
 use Rattle.pv_tree.specs.Tables.{Tables, as_expression, expression_at, arguments_of, with_tree, with_list, is_expression, Is, Extends}
 use Rattle.pv_tree.specs.Spells.{Names}
 use Rattle.pv_tree.proofs.Kept.{tree_new, is_new, is_kept, tree_kept, extends_same, extends_tree, extends_list}
-use Rattle.pv_expr_forms.specs.Reader.{Read, Reads, read, deeper, longer, grown}
-use Rattle.pv_expr_forms.specs.Answers.{seen, IsThere, Answers}
+use Rattle.pv_expr_forms.specs.Reader.{Read, Reads, read, deeper, longer_tree, longest_tree}
+use Rattle.pv_expr_forms.specs.Answers.{expression_and_rest, IsThere, Answers}
 use Rattle.pv_expr_forms.proofs.Steps.{grown_stop}
 
 -- ---- a unit that stays, or has one thing more
@@ -48,10 +48,10 @@ moved result u tokens a b e h = subst (λ (x : Read). IfOk result (λ r. Answers
 pub got : (u : Tables) (tokens : List Token) (answer : Option (NodeId × ℕ)) (reading : Read) (n : NodeId) (next : ℕ) → Answers u tokens answer reading → answer ≡ Some (n, next) → (Some (expression_at u.forest n, drop next tokens) ≡ reading) × Is u is_expression n × (next ≤ length tokens)
 got u tokens answer reading n next a e =
     let there : IsThere u tokens (Some (n, next)) = subst (IsThere u tokens) e a.there in
-    (ap (seen u.forest tokens) (sym e) ∙ a.is, there.0, there.1)
+    (ap (expression_and_rest u.forest tokens) (sym e) ∙ a.is, there.0, there.1)
 
 pub got_none : (u : Tables) (tokens : List Token) (answer : Option (NodeId × ℕ)) (reading : Read) → Answers u tokens answer reading → answer ≡ None → None ≡ reading
-got_none u tokens answer reading a e = ap (seen u.forest tokens) (sym e) ∙ a.is
+got_none u tokens answer reading a e = ap (expression_and_rest u.forest tokens) (sym e) ∙ a.is
 
 -- no depth, no tree
 pub read_none : (names : Names) (depth level : ℕ) (ts : List Token) → depth ≡ 0 → None ≡ read names depth level ts
@@ -65,13 +65,13 @@ read_some names (suc below) level ts h = rw sub-one refl
 
 -- ---- growth
 
-module _ (names : Names) (read : Reads) (level below : ℕ) (u v : Tables) (tokens : List Token) (left : NodeId) (at : ℕ) (answer : Option (NodeId × ℕ)) (a : Answers v tokens answer (longer names read level below (expression_at u.forest left) (drop at tokens))) where
+module _ (names : Names) (read : Reads) (level below : ℕ) (u v : Tables) (tokens : List Token) (left : NodeId) (at : ℕ) (answer : Option (NodeId × ℕ)) (a : Answers v tokens answer (longer_tree names read level below (expression_at u.forest left) (drop at tokens))) where
   -- a tree that grew
-  pub grew : (n : NodeId) (next : ℕ) → answer ≡ Some (n, next) → longer names read level below (expression_at u.forest left) (drop at tokens) ≡ Some (expression_at v.forest n, drop next tokens)
+  pub grew : (n : NodeId) (next : ℕ) → answer ≡ Some (n, next) → longer_tree names read level below (expression_at u.forest left) (drop at tokens) ≡ Some (expression_at v.forest n, drop next tokens)
   grew n next e = sym (got v tokens answer _ n next a e).0
 
   -- a tree that grew no more
-  pub grew_out : (whole : ExpressionTree × List Token) → answer ≡ None → Extends u v → Is u is_expression left → at ≤ length tokens → grown names read level below (expression_at u.forest left) (drop at tokens) ≡ whole → Answers v tokens (Some (left, at)) (Some whole)
+  pub grew_out : (whole : ExpressionTree × List Token) → answer ≡ None → Extends u v → Is u is_expression left → at ≤ length tokens → longest_tree names read level below (expression_at u.forest left) (drop at tokens) ≡ whole → Answers v tokens (Some (left, at)) (Some whole)
   grew_out whole e k there place same =
       let stop = sym (got_none v tokens answer _ a e) in
       record {

@@ -9,7 +9,7 @@ use Rattle.pv_tree.specs.Tables.{Tables, expression_at, arguments_of, is_express
 use Rattle.pv_tree.specs.Spells.{Names}
 use Rattle.pv_tree.specs.TypeNames.{TypeMap, AreTied}
 use Rattle.pv_tree.proofs.Kept.{extends_then}
-use Rattle.pv_expr_forms.specs.Reader.{Read, is_close, is_comma, after, further, arguments, called, read}
+use Rattle.pv_expr_forms.specs.Reader.{Read, is_close, is_comma, after, more_arguments, arguments, call_behind, read}
 use Rattle.pv_expr_forms.specs.Known.{names_in}
 use Rattle.pv_expr_forms.specs.Answers.{Answers}
 use Rattle.pv_expr_forms.proofs.Answered.{got, got_none}
@@ -18,7 +18,7 @@ use Rattle.pv_expr_forms.proofs.Naming.{names_kept}
 use Rattle.pv_expr_forms.proofs.Spans.{arguments_next, read_forward}
 
 step_in : {S : Type 0} (typedefs : IndexSet ℕ S) (types : TypeMap) (u : Tables) (tokens : List Token) → AreTied types u tokens → (below : ℕ) (before : ArgumentTrees) (at : ℕ) → at ≤ length tokens
-    → arguments (read (names_in typedefs types u tokens) below) before (drop at tokens) ≡ option_and_then (λ x. further (arguments (read (names_in typedefs types u tokens) below)) (Argument before x.0) x.1) (read (names_in typedefs types u tokens) below 2 (drop at tokens))
+    → arguments (read (names_in typedefs types u tokens) below) before (drop at tokens) ≡ option_and_then (λ x. more_arguments (arguments (read (names_in typedefs types u tokens) below)) (Argument before x.0) x.1) (read (names_in typedefs types u tokens) below 2 (drop at tokens))
 unfolding names_in
 step_in typedefs types u tokens tied below before at p = arguments_next (contains nat_eq typedefs) types u tokens tied below before at p
 
@@ -33,7 +33,7 @@ module _ {S : Type 0} (typedefs : IndexSet ℕ S) (types : TypeMap) (u v w : Tab
     (same : arguments (read (names_in typedefs types u tokens) below) (arguments_of v.forest ns) (drop next tokens) ≡ arguments (read (names_in typedefs types u tokens) below) NoArguments (drop at tokens))
     (grows : Extends v w) (answer : Option (NodeId × ℕ)) (a : Answers w tokens answer (read (names_in typedefs types v tokens) below 2 (drop next tokens))) where
   abbrev Called : Read
-  Called = called (read (names_in typedefs types u tokens) below) (expression_at u.forest callee) (drop at tokens)
+  Called = call_behind (read (names_in typedefs types u tokens) below) (expression_at u.forest callee) (drop at tokens)
 
   abbrev Rest : Option (ArgumentTrees × List Token)
   Rest = arguments (read (names_in typedefs types u tokens) below) NoArguments (drop at tokens)
@@ -43,9 +43,9 @@ module _ {S : Type 0} (typedefs : IndexSet ℕ S) (types : TypeMap) (u v w : Tab
   argument = record { is = a.is ∙ ap (λ (n : Names). read n below 2 (drop next tokens)) (names_kept typedefs types u v tokens tied keeps); there = a.there }
 
   step : (o : Read) → read (names_in typedefs types u tokens) below 2 (drop next tokens) ≡ o
-      → Rest ≡ option_and_then (λ x. further (arguments (read (names_in typedefs types u tokens) below)) (Argument (arguments_of v.forest ns) x.0) x.1) o
+      → Rest ≡ option_and_then (λ x. more_arguments (arguments (read (names_in typedefs types u tokens) below)) (Argument (arguments_of v.forest ns) x.0) x.1) o
   step o e = sym same ∙ step_in typedefs types u tokens tied below (arguments_of v.forest ns) next place
-      ∙ ap (option_and_then (λ (x : ExpressionTree × List Token). further (arguments (read (names_in typedefs types u tokens) below)) (Argument (arguments_of v.forest ns) x.0) x.1)) e
+      ∙ ap (option_and_then (λ (x : ExpressionTree × List Token). more_arguments (arguments (read (names_in typedefs types u tokens) below)) (Argument (arguments_of v.forest ns) x.0) x.1)) e
 
   ends_with : (o : Option (ArgumentTrees × List Token)) → Rest ≡ o → option_map (λ x. (Call (expression_line (expression_at u.forest callee)) (expression_at u.forest callee) x.0, x.1)) o ≡ Called
   ends_with o e = called_arguments (names_in typedefs types u tokens) below (expression_at u.forest callee) (drop at tokens) o open_end e
@@ -67,19 +67,19 @@ module _ {S : Type 0} (typedefs : IndexSet ℕ S) (types : TypeMap) (u v w : Tab
     pub call_kept : Extends u w
     call_kept = extends_then u v w keeps grows
 
-    goes : (rest : List Token) → drop end tokens ≡ rest → Rest ≡ further (arguments (read (names_in typedefs types u tokens) below)) (Argument (arguments_of v.forest ns) (expression_at w.forest n)) rest
+    goes : (rest : List Token) → drop end tokens ≡ rest → Rest ≡ more_arguments (arguments (read (names_in typedefs types u tokens) below)) (Argument (arguments_of v.forest ns) (expression_at w.forest n)) rest
     goes rest d = step (Some (expression_at w.forest n, drop end tokens)) (sym (got w tokens answer _ n end argument e).0)
-        ∙ ap (further (arguments (read (names_in typedefs types u tokens) below)) (Argument (arguments_of v.forest ns) (expression_at w.forest n))) d
+        ∙ ap (more_arguments (arguments (read (names_in typedefs types u tokens) below)) (Argument (arguments_of v.forest ns) (expression_at w.forest n))) d
 
     -- the tokens end behind it
     pub call_end : drop end tokens ≡ [] → Answers w tokens None Called
-    unfolding further
+    unfolding more_arguments
     call_end d = record { is = ends_with None (goes [] d); there = tt }
 
     module _ (t : Token) (others : List Token) (d : drop end tokens ≡ t ∷ others) where
       -- neither a comma nor a parenthesis is behind it
       pub call_stop : is_comma t.kind ≡ false → is_close t.kind ≡ false → Answers w tokens None Called
-      unfolding further
+      unfolding more_arguments
       call_stop c k = record { is = ends_with None (goes (t ∷ others) d ∙ rw (c, k) refl); there = tt }
 
       module _ (items : List NodeId) (is : items ≡ ns ++ (n ∷ [])) where
@@ -88,13 +88,13 @@ module _ {S : Type 0} (typedefs : IndexSet ℕ S) (types : TypeMap) (u v w : Tab
 
         -- a comma is behind it
         pub call_next : is_comma t.kind ≡ true → arguments (read (names_in typedefs types u tokens) below) (arguments_of w.forest items) others ≡ Rest
-        unfolding further
+        unfolding more_arguments
         call_next c = ap (λ (b : ArgumentTrees). arguments (read (names_in typedefs types u tokens) below) b others) more ∙ sym (goes (t ∷ others) d ∙ rw c refl)
 
         -- the closing parenthesis is behind it
         pub call_last : is_comma t.kind ≡ false → is_close t.kind ≡ true → Is u is_expression callee
             → Some (Call (expression_line (expression_at w.forest callee)) (expression_at w.forest callee) (arguments_of w.forest items), others) ≡ Called
-        unfolding further
+        unfolding more_arguments
         call_last c k h =
             let old = expression_kept u w callee call_kept h in
             ap (λ (x : ExpressionTree). Some (Call (expression_line x) x (arguments_of w.forest items), others)) old

@@ -13,8 +13,8 @@ use Rattle.pv_expr_forms.specs.declared.follows.Prefix.TheVariants as prefix
 use Rattle.pv_expr_forms.specs.declared.follows.Join.{Join}
 use Rattle.pv_expr_forms.specs.declared.follows.Join.TheVariants as join
 use Rattle.pv_expr_forms.specs.declared.follows.Follow.{Follow}
-use Rattle.pv_expr_forms.specs.Follows.{prefixed, join_right, joined, follow_of_mark, follow_of, follow_mark, follow_rank, follow_left}
-use Rattle.pv_expr_forms.specs.Reader.{Read, Reads, tried, longer}
+use Rattle.pv_expr_forms.specs.Follows.{prefix_tree, join_right, join_tree, follow_of_mark, follow_of, follow_mark, follow_rank, follow_left}
+use Rattle.pv_expr_forms.specs.Reader.{Read, Reads, tree_on, longer_tree}
 use Rattle.pv_expr_forms.proofs.Operators.{follow_law, follow_of_mark_is}
 
 -- one more than the level on which an expression goes on with a token, or 0; a string literal goes on with a further one
@@ -132,8 +132,8 @@ closes a f t ts e l = omega (arith, ap goes_level e, follow_level f, closes_by a
 -- ---- one step of growth
 
 tried_stops : (names : Names) (r : Reads) (level : ℕ) (left : ExpressionTree) (o : Option Follow) (ts : List Token) → ((f : Follow) → o ≡ Some f → follow_rank f < level)
-    → tried names r level left o ts ≡ None
-unfolding tried
+    → tree_on names r level left o ts ≡ None
+unfolding tree_on
 tried_stops names r level left None ts s = refl
 tried_stops names r level left (Some f) ts s =
     let e : leb level (follow_rank f) ≡ false = lt-leb level (follow_rank f) (s f refl) in
@@ -143,22 +143,22 @@ either_none : (b : Bool) → ◌≡◌ {A = Read} (cond b None None) None
 either_none true = refl
 either_none false = refl
 
-pub longer_stops : (names : Names) (r : Reads) (level below : ℕ) (left : ExpressionTree) (ts : List Token) → Stops level ts → longer names r level below left ts ≡ None
-unfolding longer
+pub longer_stops : (names : Names) (r : Reads) (level below : ℕ) (left : ExpressionTree) (ts : List Token) → Stops level ts → longer_tree names r level below left ts ≡ None
+unfolding longer_tree
 longer_stops names r level below left [] s = refl
 longer_stops names r level below left (t ∷ ts) s =
-    let none : tried names r level left (follow_of t.kind) ts ≡ None = tried_stops names r level left (follow_of t.kind) ts (λ f e. omega (arith, s, level_of t.kind f e)) in
+    let none : tree_on names r level left (follow_of t.kind) ts ≡ None = tried_stops names r level left (follow_of t.kind) ts (λ f e. omega (arith, s, level_of t.kind f e)) in
     ap (λ (o : Read). cond (leb (expression_depth left) below) o None) none ∙ either_none (leb (expression_depth left) below)
 
 -- ---- what an operator makes
 
-pub right_prefixed : (line : ℕ) (op : Prefix) (a : ExpressionTree) → right_of (prefixed line op a) ≡ 14
+pub right_prefixed : (line : ℕ) (op : Prefix) (a : ExpressionTree) → right_of (prefix_tree line op a) ≡ 14
 right_prefixed line prefix.Increment a = refl
 right_prefixed line prefix.Decrement a = refl
 right_prefixed line prefix.Sizeof a = refl
 right_prefixed line (prefix.Unary op) a = refl
 
-pub right_joined : (op : Join) (a b : ExpressionTree) → right_of (joined op a b) ≡ join_right op
+pub right_joined : (op : Join) (a b : ExpressionTree) → right_of (join_tree op a b) ≡ join_right op
 right_joined (join.Binary op) a b = refl
 right_joined (join.Assign op) a b = refl
 right_joined join.Comma a b = refl

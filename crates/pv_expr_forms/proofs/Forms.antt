@@ -17,8 +17,8 @@ use Rattle.pv_expr_forms.specs.declared.follows.Prefix.TheVariants as prefix
 use Rattle.pv_expr_forms.specs.declared.follows.Join.{Join}
 use Rattle.pv_expr_forms.specs.declared.follows.Follow.{Follow}
 use Rattle.pv_expr_forms.specs.declared.follows.Follow.TheVariants as follow
-use Rattle.pv_expr_forms.specs.Follows.{prefix_token, prefix_operand, prefixed, join_right, joined, follow_of, follow_mark, follow_rank, follow_left}
-use Rattle.pv_expr_forms.specs.Reader.{Read, Reads, is_open, is_close, is_comma, is_bracket, is_colon, texts_in_row, closed, cast_to, opened, fronted, measured, opens_type, sized, head_of, head, indexed, asked, further, arguments_for, arguments, called, selected_by, selected, goes_on, tried, longer, grown, deeper, read}
+use Rattle.pv_expr_forms.specs.Follows.{prefix_token, prefix_operand, prefix_tree, join_right, join_tree, follow_of, follow_mark, follow_rank, follow_left}
+use Rattle.pv_expr_forms.specs.Reader.{Read, Reads, is_open, is_close, is_comma, is_bracket, is_colon, texts_in_row, paren_end, cast_to, behind_open, prefix_behind, sizeof_named_type, opens_type, sizeof_behind, head_of, head, index_end, third_operand, more_arguments, arguments_for, arguments, call_behind, selected_by, selection_behind, goes_on, tree_on, longer_tree, longest_tree, deeper, read}
 use Rattle.pv_expr_forms.proofs.Operators.{follow_of_mark_is}
 use Rattle.pv_expr_forms.proofs.Marks.{after_test}
 
@@ -61,18 +61,18 @@ module _ (names : Names) (r : Reads) (below : ℕ) (t : Token) (ts : List Token)
 
   pub head_paren : (a : ExpressionTree) (c : Token) (rest : List Token) → t.kind ≡ kind.Mark mark.OpenParen → begins_type names ts ≡ false → r 1 ts ≡ Some (a, c ∷ rest)
       → c.kind ≡ kind.Mark mark.CloseParen → head names r below (t ∷ ts) ≡ Some (Paren t.line a, rest)
-  unfolding head_of opened closed
+  unfolding head_of behind_open paren_end
   head_paren a c rest o b e k = head_as (kind.Mark mark.OpenParen) o ∙ rw (b, e, after_test is_close (kind.Mark mark.CloseParen) c rest refl k) refl
 
   pub head_cast : (type : DeclarationTree) (c : Token) (inner : List Token) (a : ExpressionTree) (rest : List Token) → t.kind ≡ kind.Mark mark.OpenParen
       → begins_type names ts ≡ true → names.type_at ts ≡ Some (type, c ∷ inner) → declaration_depth type ≤ below → c.kind ≡ kind.Mark mark.CloseParen
       → r 14 inner ≡ Some (a, rest) → head names r below (t ∷ ts) ≡ Some (Cast t.line type a, rest)
-  unfolding head_of opened cast_to
+  unfolding head_of behind_open cast_to
   head_cast type c inner a rest o b is d k e =
       head_as (kind.Mark mark.OpenParen) o ∙ rw (b, is, le-leb (declaration_depth type) below d, after_test is_close (kind.Mark mark.CloseParen) c inner refl k, e) refl
 
-  head_of_prefix : (op : Prefix) → Clear names ts op → head_of names r below t.line (prefix_token op) ts ≡ fronted r t.line (Some op) ts
-  unfolding head_of sized
+  head_of_prefix : (op : Prefix) → Clear names ts op → head_of names r below t.line (prefix_token op) ts ≡ prefix_behind r t.line (Some op) ts
+  unfolding head_of sizeof_behind
   head_of_prefix prefix.Increment c = refl
   head_of_prefix prefix.Decrement c = refl
   head_of_prefix prefix.Sizeof c = rw c refl
@@ -84,14 +84,14 @@ module _ (names : Names) (r : Reads) (below : ℕ) (t : Token) (ts : List Token)
   head_of_prefix (prefix.Unary unary.Not) c = refl
 
   pub head_front : (op : Prefix) (a : ExpressionTree) (rest : List Token) → t.kind ≡ prefix_token op → Clear names ts op → r (prefix_operand op) ts ≡ Some (a, rest)
-      → head names r below (t ∷ ts) ≡ Some (prefixed t.line op a, rest)
-  unfolding fronted
+      → head names r below (t ∷ ts) ≡ Some (prefix_tree t.line op a, rest)
+  unfolding prefix_behind
   head_front op a rest o c e = head_as (prefix_token op) o ∙ head_of_prefix op c ∙ rw e refl
 
 pub head_sizeof_type : (names : Names) (r : Reads) (below : ℕ) (t p : Token) (ts : List Token) (type : DeclarationTree) (c : Token) (rest : List Token)
     → t.kind ≡ kind.Word word.Sizeof → p.kind ≡ kind.Mark mark.OpenParen → begins_type names ts ≡ true → names.type_at ts ≡ Some (type, c ∷ rest)
     → declaration_depth type ≤ below → c.kind ≡ kind.Mark mark.CloseParen → head names r below (t ∷ p ∷ ts) ≡ Some (SizeofType t.line type, rest)
-unfolding head_of sized measured
+unfolding head_of sizeof_behind sizeof_named_type
 head_sizeof_type names r below t p ts type c rest w o b is d k =
     let opens : is_open p.kind ≡ true = ap is_open o in
     head_as names r below t (p ∷ ts) (kind.Word word.Sizeof) w ∙ rw (opens, b, is, le-leb (declaration_depth type) below d, after_test is_close (kind.Mark mark.CloseParen) c rest refl k) refl
@@ -99,26 +99,26 @@ head_sizeof_type names r below t p ts type c rest w o b is d k =
 -- ---- forms that go on
 
 pub longer_on : (names : Names) (r : Reads) (level below : ℕ) (left : ExpressionTree) (f : Follow) (t : Token) (ts : List Token) → t.kind ≡ kind.Mark (follow_mark f)
-    → level ≤ follow_rank f → follow_left f ≤ rank left → expression_depth left ≤ below → longer names r level below left (t ∷ ts) ≡ goes_on names r left f ts
-unfolding longer tried
+    → level ≤ follow_rank f → follow_left f ≤ rank left → expression_depth left ≤ below → longer_tree names r level below left (t ∷ ts) ≡ goes_on names r left f ts
+unfolding longer_tree tree_on
 longer_on names r level below left f t ts e l k d =
     let follows : follow_of t.kind ≡ Some f = ap follow_of e ∙ follow_of_mark_is f in
     rw (le-leb (expression_depth left) below d, follows, le-leb level (follow_rank f) l, le-leb (follow_left f) (rank left) k) refl
 
 module _ (names : Names) (r : Reads) (a : ExpressionTree) (ts : List Token) where
   pub goes_join : (op : Join) (b : ExpressionTree) (rest : List Token) → r (join_right op) ts ≡ Some (b, rest)
-      → goes_on names r a (follow.Join op) ts ≡ Some (joined op a b, rest)
+      → goes_on names r a (follow.Join op) ts ≡ Some (join_tree op a b, rest)
   unfolding goes_on
   goes_join op b rest e = rw e refl
 
   pub goes_ask : (b : ExpressionTree) (c : Token) (inner : List Token) (d : ExpressionTree) (rest : List Token) → r 1 ts ≡ Some (b, c ∷ inner)
       → c.kind ≡ kind.Mark mark.Colon → r 3 inner ≡ Some (d, rest) → goes_on names r a follow.Ask ts ≡ Some (Conditional (expression_line a) a b d, rest)
-  unfolding goes_on asked
+  unfolding goes_on third_operand
   goes_ask b c inner d rest e k h = rw (e, after_test is_colon (kind.Mark mark.Colon) c inner refl k, h) refl
 
   pub goes_index : (i : ExpressionTree) (c : Token) (rest : List Token) → r 1 ts ≡ Some (i, c ∷ rest) → c.kind ≡ kind.Mark mark.CloseBracket
       → goes_on names r a follow.Index ts ≡ Some (Index (expression_line a) a i, rest)
-  unfolding goes_on indexed
+  unfolding goes_on index_end
   goes_index i c rest e k = rw (e, after_test is_bracket (kind.Mark mark.CloseBracket) c rest refl k) refl
 
   pub goes_increment : goes_on names r a follow.Increment ts ≡ Some (PostIncrement (expression_line a) a, ts)
@@ -130,8 +130,8 @@ module _ (names : Names) (r : Reads) (a : ExpressionTree) (ts : List Token) wher
   goes_decrement = refl
 
 selected_name : (names : Names) (make : ℕ → ExpressionTree) (n : ℕ) (t : Token) (ts : List Token) → t.kind ≡ kind.Name n → names.is_type n ≡ false
-    → selected names make (t ∷ ts) ≡ Some (make n, ts)
-unfolding selected selected_by
+    → selection_behind names make (t ∷ ts) ≡ Some (make n, ts)
+unfolding selection_behind selected_by
 selected_name names make n t ts e free =
     ap (λ (k : TokenKind). selected_by names make k ts) e ∙ ap (λ (b : Bool). cond {A = Read} b None (Some (make n, ts))) free
 
@@ -147,12 +147,12 @@ goes_arrow names r a n t ts e free = selected_name names (Arrow (expression_line
 
 pub goes_call_none : (names : Names) (r : Reads) (a : ExpressionTree) (c : Token) (rest : List Token) → c.kind ≡ kind.Mark mark.CloseParen
     → goes_on names r a follow.Call (c ∷ rest) ≡ Some (Call (expression_line a) a NoArguments, rest)
-unfolding goes_on called
+unfolding goes_on call_behind
 goes_call_none names r a c rest k = let closes : is_close c.kind ≡ true = ap is_close k in rw closes refl
 
 pub goes_call : (names : Names) (r : Reads) (a : ExpressionTree) (args : ArgumentTrees) (c : Token) (ts rest : List Token) → is_close c.kind ≡ false
     → arguments r NoArguments (c ∷ ts) ≡ Some (args, rest) → goes_on names r a follow.Call (c ∷ ts) ≡ Some (Call (expression_line a) a args, rest)
-unfolding goes_on called
+unfolding goes_on call_behind
 goes_call names r a args c ts rest k e = rw (k, e) refl
 
 -- ---- arguments
@@ -160,12 +160,12 @@ goes_call names r a args c ts rest k e = rw (k, e) refl
 -- with a comma behind, and so many steps left
 pub arguments_more : (r : Reads) (steps : ℕ) (before : ArgumentTrees) (x : ExpressionTree) (ts : List Token) (c : Token) (rest : List Token) → r 2 ts ≡ Some (x, c ∷ rest)
     → c.kind ≡ kind.Mark mark.Comma → arguments_for (suc steps) r before ts ≡ arguments_for steps r (Argument before x) rest
-unfolding arguments_for further
+unfolding arguments_for more_arguments
 arguments_more r steps before x ts c rest e k = let comma : is_comma c.kind ≡ true = ap is_comma k in rw (e, comma) refl
 
 pub arguments_last : (r : Reads) (steps : ℕ) (before : ArgumentTrees) (x : ExpressionTree) (ts : List Token) (c : Token) (rest : List Token) → r 2 ts ≡ Some (x, c ∷ rest)
     → c.kind ≡ kind.Mark mark.CloseParen → arguments_for (suc steps) r before ts ≡ Some (Argument before x, rest)
-unfolding arguments_for further
+unfolding arguments_for more_arguments
 arguments_last r steps before x ts c rest e k =
     let comma : is_comma c.kind ≡ false = ap is_comma k in
     let close : is_close c.kind ≡ true = ap is_close k in
@@ -178,6 +178,6 @@ arguments_by r ts = refl
 -- ---- all of it
 
 pub read_head : (names : Names) (below level : ℕ) (ts : List Token) (a : ExpressionTree) (rest : List Token) → head names (read names below) below ts ≡ Some (a, rest)
-    → level ≤ rank a → read names (suc below) level ts ≡ Some (grown names (read names below) level below a rest)
+    → level ≤ rank a → read names (suc below) level ts ≡ Some (longest_tree names (read names below) level below a rest)
 unfolding read deeper
 read_head names below level ts a rest e l = rw (e, le-leb level (rank a) l) refl

@@ -15,8 +15,8 @@ use Rattle.pv_tree.specs.Spells.{Names, Fits, FitsArguments}
 use Rattle.pv_expr_forms.specs.declared.follows.Join.{Join}
 use Rattle.pv_expr_forms.specs.declared.follows.Follow.{Follow}
 use Rattle.pv_expr_forms.specs.declared.follows.Follow.TheVariants as follow
-use Rattle.pv_expr_forms.specs.Follows.{join_mark, join_right, joined, follow_of, follow_mark, follow_rank, follow_left}
-use Rattle.pv_expr_forms.specs.Reader.{Read, Reads, is_close, is_comma, is_bracket, is_colon, after, indexed, asked, further, arguments_for, arguments, called, selected, goes_on, tried, longer, carried, grown_for, grown}
+use Rattle.pv_expr_forms.specs.Follows.{join_mark, join_right, join_tree, follow_of, follow_mark, follow_rank, follow_left}
+use Rattle.pv_expr_forms.specs.Reader.{Read, Reads, is_close, is_comma, is_bracket, is_colon, after, index_end, third_operand, more_arguments, arguments_for, arguments, call_behind, selection_behind, goes_on, tree_on, longer_tree, on_with_tree, grown_for, longest_tree}
 use Rattle.pv_expr_forms.proofs.Runs.{Takes, takes_then, takes_rest, takes_behind, takes_next, takes_length, takes_known}
 use Rattle.pv_expr_forms.proofs.Operators.{follow_of_is}
 use Rattle.pv_expr_forms.proofs.Steps.{guarded, mapped, followed, some_is, depth_joined, selected_by_is}
@@ -55,9 +55,9 @@ still_shorter : (n : ℕ) (a : ExpressionTree) (ts : List Token) (b : Expression
 still_shorter n a ts b rest h (inl k) = omega arith
 still_shorter n a ts b rest h (inr e) = let same : length rest ≡ length ts = ap (λ (x : ExpressionTree × List Token). length x.1) e in omega arith
 
-selected_takes : (names : Names) (make : ℕ → ExpressionTree) (ts : List Token) (a : ExpressionTree) (rest : List Token) → selected names make ts ≡ Some (a, rest)
+selected_takes : (names : Names) (make : ℕ → ExpressionTree) (ts : List Token) (a : ExpressionTree) (rest : List Token) → selection_behind names make ts ≡ Some (a, rest)
     → (n : ℕ) × Takes (kind.Name n ∷ []) ts rest × (names.is_type n ≡ false) × (make n ≡ a)
-unfolding selected
+unfolding selection_behind
 selected_takes names make [] a rest e = absurd cc
 selected_takes names make (t ∷ ts) a rest e =
     let m = selected_by_is names make t.kind ts a rest e in
@@ -91,8 +91,8 @@ module _ (names : Names) (K : List Token → Type 0) (spelled : IsSpelled names 
   further_good : (go : ArgumentTrees → List Token → Option (ArgumentTrees × List Token)) → Goes go
       → (before : ArgumentTrees) (last : ExpressionTree) (here ts : List Token) (args : ArgumentTrees) (rest : List Token) → K ts
       → FitsArguments names (Argument before last) here → arguments_depth (Argument before last) ≤ below → Takes (arguments_tokens (Argument before last)) here ts
-      → further go (Argument before last) ts ≡ Some (args, rest) → Given names below here args rest
-  unfolding further
+      → more_arguments go (Argument before last) ts ≡ Some (args, rest) → Given names below here args rest
+  unfolding more_arguments
   further_good go goes before last here [] args rest known f d h e = absurd cc
   further_good go goes before last here (t ∷ ts) args rest known f d h e =
       further_by go goes (is_comma t.kind) (is_close t.kind) before last here t ts args rest (spelled.tail t ts known) f d h refl refl e
@@ -101,7 +101,7 @@ module _ (names : Names) (K : List Token → Type 0) (spelled : IsSpelled names 
   unfolding arguments_for
   arguments_for_good zero before here ts known f d h args rest e = absurd cc
   arguments_for_good (suc steps) before here ts known f d h args rest e =
-      let x = followed (λ (x : ExpressionTree × List Token). further (arguments_for steps r) (Argument before x.0) x.1) (r 2 ts) (args, rest) e in
+      let x = followed (λ (x : ExpressionTree × List Token). more_arguments (arguments_for steps r) (Argument before x.0) x.1) (r 2 ts) (args, rest) e in
       let a = s.good 2 ts x.0.0 x.0.1 known x.1 in
       let place : drop (length (before_argument before (arguments_tokens before))) here ≡ ts = takes_rest (before_argument before (arguments_tokens before)) here ts h in
       further_good (arguments_for steps r) (arguments_for_good steps) before x.0.0 here x.0.1 args rest
@@ -125,9 +125,9 @@ module _ (names : Names) (K : List Token → Type 0) (spelled : IsSpelled names 
       let g = arguments_good (t ∷ ts) known m.0.0 m.0.1 m.1 in
       (m.0.0, subst (λ (x : List Token). Given names below (t ∷ ts) m.0.0 x) (ap (λ (x : ExpressionTree × List Token). x.1) m.2) g, ap (λ (x : ExpressionTree × List Token). x.0) m.2)
 
-  called_good : (left : ExpressionTree) (ts : List Token) → K ts → (a : ExpressionTree) (rest : List Token) → called r left ts ≡ Some (a, rest)
+  called_good : (left : ExpressionTree) (ts : List Token) → K ts → (a : ExpressionTree) (rest : List Token) → call_behind r left ts ≡ Some (a, rest)
       → (args : ArgumentTrees) × Given names below ts args rest × (Call (expression_line left) left args ≡ a)
-  unfolding called
+  unfolding call_behind
   called_good left [] known a rest e = absurd cc
   called_good left (t ∷ ts) known a rest e = called_by (is_close t.kind) left t ts a rest known refl e
 
@@ -146,7 +146,7 @@ module _ (names : Names) (K : List Token → Type 0) (spelled : IsSpelled names 
     join_good op a rest o l k e =
         let m = mapped _ (r (join_right op) ts) (a, rest) e in
         let b = s.good (join_right op) ts m.0.0 m.0.1 known m.1 in
-        longer_at names level (suc below) here (t ∷ ts) (joined op left m.0.0, m.0.1) a rest m.2 (record {
+        longer_at names level (suc below) here (t ∷ ts) (join_tree op left m.0.0, m.0.1) a rest m.2 (record {
           fits = fits_joined names op left m.0.0 here k b.tight f (subst (λ (x : List Token). Fits names m.0.0 x) (sym place) b.fits);
           tight = omega (arith, rank_joined op left m.0.0, l);
           shallow = omega (arith, depth_joined op left m.0.0, b.shallow, d);
@@ -156,9 +156,9 @@ module _ (names : Names) (K : List Token → Type 0) (spelled : IsSpelled names 
 
     ask_good : (a : ExpressionTree) (rest : List Token) → t.kind ≡ kind.Mark mark.Question → level ≤ 3 → 4 ≤ rank left
         → goes_on names r left follow.Ask ts ≡ Some (a, rest) → Went a rest
-    unfolding goes_on asked
+    unfolding goes_on third_operand
     ask_good a rest o l k e =
-        let m = followed (λ (x : ExpressionTree × List Token). asked r left x.0 x.1) (r 1 ts) (a, rest) e in
+        let m = followed (λ (x : ExpressionTree × List Token). third_operand r left x.0 x.1) (r 1 ts) (a, rest) e in
         let n = followed (λ (y : List Token). option_map (λ x. (Conditional (expression_line left) left m.0.0 x.0, x.1)) (r 3 y)) (after is_colon m.0.1) (a, rest) m.2 in
         let w = mapped _ (r 3 n.0) (a, rest) n.2 in
         let b = s.good 1 ts m.0.0 m.0.1 known m.1 in
@@ -177,9 +177,9 @@ module _ (names : Names) (K : List Token → Type 0) (spelled : IsSpelled names 
         })
 
     index_good : (a : ExpressionTree) (rest : List Token) → t.kind ≡ kind.Mark mark.OpenBracket → level ≤ 16 → 16 ≤ rank left → goes_on names r left follow.Index ts ≡ Some (a, rest) → Went a rest
-    unfolding goes_on indexed
+    unfolding goes_on index_end
     index_good a rest o l k e =
-        let m = followed (λ (x : ExpressionTree × List Token). indexed left x.0 x.1) (r 1 ts) (a, rest) e in
+        let m = followed (λ (x : ExpressionTree × List Token). index_end left x.0 x.1) (r 1 ts) (a, rest) e in
         let n = mapped _ (after is_bracket m.0.1) (a, rest) m.2 in
         let i = s.good 1 ts m.0.0 m.0.1 known m.1 in
         let inner = takes_then (expression_tokens m.0.0) (kind.Mark mark.CloseBracket ∷ []) ts m.0.1 n.0 i.takes (after_bracket m.0.1 n.0 n.1) in
@@ -209,7 +209,7 @@ module _ (names : Names) (K : List Token → Type 0) (spelled : IsSpelled names 
     -- a name behind `.` or `->`
     member_good : (op : TokenKind) (make : ℕ → ExpressionTree) (a : ExpressionTree) (rest : List Token) → ((n : ℕ) → names.is_type n ≡ false → Fits names (make n) here)
         → ((n : ℕ) → level ≤ rank (make n)) → ((n : ℕ) → expression_depth (make n) ≡ suc (expression_depth left))
-        → ((n : ℕ) → expression_tokens (make n) ≡ expression_tokens left ++ (op ∷ kind.Name n ∷ [])) → t.kind ≡ op → selected names make ts ≡ Some (a, rest) → Went a rest
+        → ((n : ℕ) → expression_tokens (make n) ≡ expression_tokens left ++ (op ∷ kind.Name n ∷ [])) → t.kind ≡ op → selection_behind names make ts ≡ Some (a, rest) → Went a rest
     member_good op make a rest fits tight deep spell o e =
         let m = selected_takes names make ts a rest e in
         let n = m.0 in
@@ -247,8 +247,8 @@ module _ (names : Names) (K : List Token → Type 0) (spelled : IsSpelled names 
     goes_good follow.Increment a rest o l k e = step_good (kind.Mark mark.Increment) (PostIncrement (expression_line left) left) a rest (line_is names left here f, k, f) l refl refl o e
     goes_good follow.Decrement a rest o l k e = step_good (kind.Mark mark.Decrement) (PostDecrement (expression_line left) left) a rest (line_is names left here f, k, f) l refl refl o e
 
-    tried_good : (o : Option Follow) (a : ExpressionTree) (rest : List Token) → follow_of t.kind ≡ o → tried names r level left o ts ≡ Some (a, rest) → Went a rest
-    unfolding tried
+    tried_good : (o : Option Follow) (a : ExpressionTree) (rest : List Token) → follow_of t.kind ≡ o → tree_on names r level left o ts ≡ Some (a, rest) → Went a rest
+    unfolding tree_on
     tried_good None a rest o e = absurd cc
     tried_good (Some w) a rest o e =
         let g = guarded _ (goes_on names r left w ts) (a, rest) e in
@@ -258,11 +258,11 @@ module _ (names : Names) (K : List Token → Type 0) (spelled : IsSpelled names 
   -- ---- growth
 
   longer_good : (level : ℕ) (here : List Token) (left : ExpressionTree) (ts : List Token) (a : ExpressionTree) (rest : List Token) → K ts → Fits names left here
-      → Takes (expression_tokens left) here ts → longer names r level below left ts ≡ Some (a, rest) → Longer names level (suc below) here ts a rest
-  unfolding longer
+      → Takes (expression_tokens left) here ts → longer_tree names r level below left ts ≡ Some (a, rest) → Longer names level (suc below) here ts a rest
+  unfolding longer_tree
   longer_good level here left [] a rest known f h e = absurd cc
   longer_good level here left (t ∷ ts) a rest known f h e =
-      let g = guarded _ (tried names r level left (follow_of t.kind) ts) (a, rest) e in
+      let g = guarded _ (tree_on names r level left (follow_of t.kind) ts) (a, rest) e in
       tried_good level here left t ts (spelled.tail t ts known) f (leb-true _ _ g.0) h (follow_of t.kind) a rest refl g.1
 
   module _ (level : ℕ) (here : List Token) (all : K here) where
@@ -277,8 +277,8 @@ module _ (names : Names) (K : List Token → Type 0) (spelled : IsSpelled names 
     ended left ts b = record { fits = b.0; tight = b.1; shallow = b.2; takes = b.3; shorter = inr refl }
 
     carried_good : (go : ExpressionTree → List Token → ExpressionTree × List Token) (left : ExpressionTree) (ts : List Token) (o : Read)
-        → longer names r level below left ts ≡ o → Starts left ts → ((a : ExpressionTree) (rest : List Token) → Starts a rest → Grows a rest (go a rest))
-        → Grows left ts (carried go (left, ts) o)
+        → longer_tree names r level below left ts ≡ o → Starts left ts → ((a : ExpressionTree) (rest : List Token) → Starts a rest → Grows a rest (go a rest))
+        → Grows left ts (on_with_tree go (left, ts) o)
     carried_good go left ts None e b h = ended left ts b
     carried_good go left ts (Some x) e b h =
         let known = known_behind (expression_tokens left) here ts b.3 all in
@@ -290,9 +290,9 @@ module _ (names : Names) (K : List Token → Type 0) (spelled : IsSpelled names 
     unfolding grown_for
     grown_for_good zero left ts b = ended left ts b
     grown_for_good (suc steps) left ts b =
-        carried_good (grown_for steps names r level below) left ts (longer names r level below left ts) refl b (λ a rest starts. grown_for_good steps a rest starts)
+        carried_good (grown_for steps names r level below) left ts (longer_tree names r level below left ts) refl b (λ a rest starts. grown_for_good steps a rest starts)
 
     pub grown_good : (left : ExpressionTree) (ts : List Token) → Fits names left here → level ≤ rank left → expression_depth left ≤ suc below
-        → Takes (expression_tokens left) here ts → Grows left ts (grown names r level below left ts)
-    unfolding grown
+        → Takes (expression_tokens left) here ts → Grows left ts (longest_tree names r level below left ts)
+    unfolding longest_tree
     grown_good left ts f l d h = grown_for_good (suc below) left ts (f, l, d, h)

@@ -13,8 +13,8 @@ use Rattle.pv_tree.specs.Spelling.{expression_tokens, declaration_tokens}
 use Rattle.pv_tree.specs.Spells.{Names, begins_type, IsTypeName, Fits}
 use Rattle.pv_expr_forms.specs.declared.follows.Prefix.{Prefix}
 use Rattle.pv_expr_forms.specs.declared.follows.Prefix.TheVariants as prefix
-use Rattle.pv_expr_forms.specs.Follows.{prefix_token, prefix_of, prefix_operand, prefixed}
-use Rattle.pv_expr_forms.specs.Reader.{Read, Reads, is_open, is_close, after, texts_in_row, closed, cast_to, opened, fronted, measured, opens_type, sized, head_of, head}
+use Rattle.pv_expr_forms.specs.Follows.{prefix_token, prefix_of, prefix_operand, prefix_tree}
+use Rattle.pv_expr_forms.specs.Reader.{Read, Reads, is_open, is_close, after, texts_in_row, paren_end, cast_to, behind_open, prefix_behind, sizeof_named_type, opens_type, sizeof_behind, head_of, head}
 use Rattle.pv_expr_forms.proofs.Runs.{Takes, takes_then, takes_rest, takes_known, takes_past}
 use Rattle.pv_expr_forms.proofs.Operators.{prefix_of_is}
 use Rattle.pv_expr_forms.proofs.Steps.{guarded, unless, mapped, followed, some_is}
@@ -43,8 +43,8 @@ good_at names level deep here x a rest e g = subst (λ (y : ExpressionTree × Li
 
 module _ (names : Names) (K : List Token → Type 0) (spelled : IsSpelled names K) (below : ℕ) (r : Reads) (s : IsSound names K below r) where
   closed_good : (t : Token) (ts : List Token) (a : ExpressionTree) (mid : List Token) (b : ExpressionTree) (rest : List Token) → t.kind ≡ kind.Mark mark.OpenParen
-      → Good names 1 below ts a mid → closed t.line a mid ≡ Some (b, rest) → Good names 0 (suc below) (t ∷ ts) b rest
-  unfolding closed
+      → Good names 1 below ts a mid → paren_end t.line a mid ≡ Some (b, rest) → Good names 0 (suc below) (t ∷ ts) b rest
+  unfolding paren_end
   closed_good t ts a mid b rest o g e =
       let m = mapped _ (after is_close mid) (b, rest) e in
       good_at names 0 (suc below) (t ∷ ts) (Paren t.line a, m.0) b rest m.2 (record {
@@ -77,22 +77,22 @@ module _ (names : Names) (K : List Token → Type 0) (spelled : IsSpelled names 
 
   opened_good : (begins : Bool) (t : Token) (ts : List Token) (b : ExpressionTree) (rest : List Token) → K ts → t.kind ≡ kind.Mark mark.OpenParen
       → begins_type names ts ≡ begins
-      → cond begins (option_and_then (λ x. cast_to r below t.line x.0 x.1) (names.type_at ts)) (option_and_then (λ x. closed t.line x.0 x.1) (r 1 ts)) ≡ Some (b, rest)
+      → cond begins (option_and_then (λ x. cast_to r below t.line x.0 x.1) (names.type_at ts)) (option_and_then (λ x. paren_end t.line x.0 x.1) (r 1 ts)) ≡ Some (b, rest)
       → Good names 0 (suc below) (t ∷ ts) b rest
   opened_good true t ts b rest known o begins e =
       let f = followed (λ (x : DeclarationTree × List Token). cast_to r below t.line x.0 x.1) (names.type_at ts) (b, rest) e in
       cast_good t ts f.0.0 f.0.1 b rest known o begins f.1 f.2
   opened_good false t ts b rest known o begins e =
-      let f = followed (λ (x : ExpressionTree × List Token). closed t.line x.0 x.1) (r 1 ts) (b, rest) e in
+      let f = followed (λ (x : ExpressionTree × List Token). paren_end t.line x.0 x.1) (r 1 ts) (b, rest) e in
       closed_good t ts f.0.0 f.0.1 b rest o (s.good 1 ts f.0.0 f.0.1 known f.1) f.2
 
   fronted_good : (t : Token) (op : Prefix) (ts : List Token) (b : ExpressionTree) (rest : List Token) → K ts → t.kind ≡ prefix_token op
-      → fronted r t.line (Some op) ts ≡ Some (b, rest) → Good names 0 (suc below) (t ∷ ts) b rest
-  unfolding fronted
+      → prefix_behind r t.line (Some op) ts ≡ Some (b, rest) → Good names 0 (suc below) (t ∷ ts) b rest
+  unfolding prefix_behind
   fronted_good t op ts b rest known o e =
       let m = mapped _ (r (prefix_operand op) ts) (b, rest) e in
       let a = s.good (prefix_operand op) ts m.0.0 m.0.1 known m.1 in
-      good_at names 0 (suc below) (t ∷ ts) (prefixed t.line op m.0.0, m.0.1) b rest m.2 (record {
+      good_at names 0 (suc below) (t ∷ ts) (prefix_tree t.line op m.0.0, m.0.1) b rest m.2 (record {
         fits = fits_prefixed names t.line op m.0.0 (t ∷ ts) refl a.tight a.fits;
         tight = omega arith;
         shallow = omega (arith, a.shallow, depth_prefixed t.line op m.0.0);
@@ -100,15 +100,15 @@ module _ (names : Names) (K : List Token → Type 0) (spelled : IsSpelled names 
       })
 
   fronted_by_good : (t : Token) (k : TokenKind) (o : Option Prefix) (ts : List Token) (b : ExpressionTree) (rest : List Token) → K ts → t.kind ≡ k → prefix_of k ≡ o
-      → fronted r t.line o ts ≡ Some (b, rest) → Good names 0 (suc below) (t ∷ ts) b rest
-  unfolding fronted
+      → prefix_behind r t.line o ts ≡ Some (b, rest) → Good names 0 (suc below) (t ∷ ts) b rest
+  unfolding prefix_behind
   fronted_by_good t k None ts b rest known is p e = absurd cc
   fronted_by_good t k (Some op) ts b rest known is p e = fronted_good t op ts b rest known (is ∙ prefix_of_is k op p) e
 
   measured_good : (t p : Token) (ts : List Token) (type : DeclarationTree) (mid : List Token) (b : ExpressionTree) (rest : List Token) → K ts
       → t.kind ≡ kind.Word word.Sizeof → p.kind ≡ kind.Mark mark.OpenParen → begins_type names ts ≡ true → names.type_at ts ≡ Some (type, mid)
-      → measured below t.line type mid ≡ Some (b, rest) → Good names 0 (suc below) (t ∷ p ∷ ts) b rest
-  unfolding measured
+      → sizeof_named_type below t.line type mid ≡ Some (b, rest) → Good names 0 (suc below) (t ∷ p ∷ ts) b rest
+  unfolding sizeof_named_type
   measured_good t p ts type mid b rest known w o begins is e =
       let g = guarded _ (option_map (λ (x : List Token). let y : ExpressionTree × List Token = (SizeofType t.line type, x) in y) (after is_close mid)) (b, rest) e in
       let m = mapped (λ (x : List Token). let y : ExpressionTree × List Token = (SizeofType t.line type, x) in y) (after is_close mid) (b, rest) g.1 in
@@ -122,16 +122,16 @@ module _ (names : Names) (K : List Token → Type 0) (spelled : IsSpelled names 
       })
 
   sized_type_good : (t : Token) (ts : List Token) (b : ExpressionTree) (rest : List Token) → K ts → t.kind ≡ kind.Word word.Sizeof → opens_type names ts ≡ true
-      → option_and_then (λ x. measured below t.line x.0 x.1) (names.type_at (drop 1 ts)) ≡ Some (b, rest) → Good names 0 (suc below) (t ∷ ts) b rest
+      → option_and_then (λ x. sizeof_named_type below t.line x.0 x.1) (names.type_at (drop 1 ts)) ≡ Some (b, rest) → Good names 0 (suc below) (t ∷ ts) b rest
   sized_type_good t [] b rest known w begins e = absurd cc
   sized_type_good t (p ∷ ts) b rest known w begins e =
-      let f = followed (λ (x : DeclarationTree × List Token). measured below t.line x.0 x.1) (names.type_at ts) (b, rest) e in
+      let f = followed (λ (x : DeclarationTree × List Token). sizeof_named_type below t.line x.0 x.1) (names.type_at ts) (b, rest) e in
       let both = and_parts (is_open p.kind) (begins_type names ts) begins in
       measured_good t p ts f.0.0 f.0.1 b rest (spelled.tail p ts known) w (open_is p.kind both.0) both.1 f.1 f.2
 
   sized_good : (begins : Bool) (t : Token) (ts : List Token) (b : ExpressionTree) (rest : List Token) → K ts → t.kind ≡ kind.Word word.Sizeof
       → opens_type names ts ≡ begins
-      → cond begins (option_and_then (λ x. measured below t.line x.0 x.1) (names.type_at (drop 1 ts))) (fronted r t.line (Some prefix.Sizeof) ts) ≡ Some (b, rest)
+      → cond begins (option_and_then (λ x. sizeof_named_type below t.line x.0 x.1) (names.type_at (drop 1 ts))) (prefix_behind r t.line (Some prefix.Sizeof) ts) ≡ Some (b, rest)
       → Good names 0 (suc below) (t ∷ ts) b rest
   sized_good true t ts b rest known w begins e = sized_type_good t ts b rest known w begins e
   sized_good false t ts b rest known w begins e = fronted_good t prefix.Sizeof ts b rest known w e
@@ -149,7 +149,7 @@ module _ (names : Names) (K : List Token → Type 0) (spelled : IsSpelled names 
 
   head_of_good : (t : Token) (k : TokenKind) (ts : List Token) (b : ExpressionTree) (rest : List Token) → t.kind ≡ k → K ts
       → head_of names r below t.line k ts ≡ Some (b, rest) → Good names 0 (suc below) (t ∷ ts) b rest
-  unfolding head_of opened sized
+  unfolding head_of behind_open sizeof_behind
   head_of_good t (kind.Name n) ts b rest is known e = named_good t n ts b rest is e
   head_of_good t (kind.Number value decimal unsigned longs) ts b rest is known e =
       leaf_good t ts (Number t.line value decimal unsigned longs, ts) b rest (record { fits = refl; tight = omega arith; shallow = omega arith; takes = (is, refl) }) e

@@ -11,7 +11,7 @@ use Rattle.pv_tree.specs.Tables.{Tables, as_expression, expression_at, arguments
 use Rattle.pv_tree.specs.Spells.{Names}
 use Rattle.pv_tree.proofs.Forming.{fold_push}
 use Rattle.pv_tree.proofs.Kept.{tree_kept, is_kept}
-use Rattle.pv_expr_forms.specs.Reader.{Reads, is_close, after, arguments, arguments_for, called, head, deeper, read}
+use Rattle.pv_expr_forms.specs.Reader.{Reads, is_close, after, arguments, arguments_for, call_behind, head, deeper, read}
 use Rattle.pv_expr_forms.proofs.Steps.{guarded, some_is}
 
 -- ---- nodes as arguments
@@ -36,8 +36,8 @@ all_more u v ns n e all there = All-push (λ m. Is v is_expression m) ns n (λ k
 
 -- ---- no arguments
 
-pub called_close : (r : Reads) (left : ExpressionTree) (ts rest : List Token) → after is_close ts ≡ Some rest → Some (Call (expression_line left) left NoArguments, rest) ≡ called r left ts
-unfolding called
+pub called_close : (r : Reads) (left : ExpressionTree) (ts rest : List Token) → after is_close ts ≡ Some rest → Some (Call (expression_line left) left NoArguments, rest) ≡ call_behind r left ts
+unfolding call_behind
 called_close r left [] rest e = absurd cc
 called_close r left (t ∷ ts) rest e =
     let g = guarded (is_close t.kind) (Some ts) rest e in
@@ -60,8 +60,8 @@ no_arguments : (names : Names) (below : ℕ) → None ≡ arguments (read names 
 unfolding arguments arguments_for
 no_arguments names below = rw (read_nothing names below 2) refl
 
-pub called_arguments : (names : Names) (below : ℕ) (left : ExpressionTree) (ts : List Token) (o : Option (ArgumentTrees × List Token)) → after is_close ts ≡ None → arguments (read names below) NoArguments ts ≡ o → option_map (λ x. (Call (expression_line left) left x.0, x.1)) o ≡ called (read names below) left ts
-unfolding called
+pub called_arguments : (names : Names) (below : ℕ) (left : ExpressionTree) (ts : List Token) (o : Option (ArgumentTrees × List Token)) → after is_close ts ≡ None → arguments (read names below) NoArguments ts ≡ o → option_map (λ x. (Call (expression_line left) left x.0, x.1)) o ≡ call_behind (read names below) left ts
+unfolding call_behind
 called_arguments names below left [] o e a = ap (option_map (λ (x : ArgumentTrees × List Token). let y : ExpressionTree × List Token = (Call (expression_line left) left x.0, x.1) in y)) (sym a ∙ sym (no_arguments names below))
 called_arguments names below left (t ∷ ts) o e a =
     rw (not_guarded (is_close t.kind) ts e) (ap (option_map (λ (x : ArgumentTrees × List Token). let y : ExpressionTree × List Token = (Call (expression_line left) left x.0, x.1) in y)) (sym a))

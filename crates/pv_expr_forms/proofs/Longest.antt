@@ -17,8 +17,8 @@ use Rattle.pv_expr_forms.specs.declared.follows.Prefix.TheVariants as prefix
 use Rattle.pv_expr_forms.specs.declared.follows.Join.{Join}
 use Rattle.pv_expr_forms.specs.declared.follows.Join.TheVariants as join
 use Rattle.pv_expr_forms.specs.declared.follows.Follow.TheVariants as follow
-use Rattle.pv_expr_forms.specs.Follows.{prefix_token, prefix_operand, prefixed, join_mark, join_rank, join_left, join_right, joined}
-use Rattle.pv_expr_forms.specs.Reader.{Read, texts_in_row, grown, read}
+use Rattle.pv_expr_forms.specs.Follows.{prefix_token, prefix_operand, prefix_tree, join_mark, join_rank, join_left, join_right, join_tree}
+use Rattle.pv_expr_forms.specs.Reader.{Read, texts_in_row, longest_tree, read}
 use Rattle.pv_expr_forms.proofs.Runs.{Takes, takes_then, takes_parts, parts_at, takes_behind, takes_past, one_token, takes_rest, takes_length, takes_known}
 use Rattle.pv_expr_forms.proofs.Steps.{depth_joined}
 use Rattle.pv_expr_forms.proofs.Marks.{texts_taken}
@@ -90,23 +90,23 @@ module _ (names : Names) (K : List Token → Type 0) (spelled : IsSpelled names 
   AllReached a here = (rest : List Token) → K here → Takes (expression_tokens a) here rest → (below level : ℕ) → level ≤ rank a → expression_depth a ≤ suc below → Reaches (read names (suc below) level here) (a, rest)
 
   grown_within : (below level : ℕ) (here : List Token) (left : ExpressionTree) (ts : List Token) → K here → Fits names left here → Takes (expression_tokens left) here ts
-      → level ≤ rank left → expression_depth left ≤ suc below → Within (grown names (read names below) level below left ts) (left, ts)
+      → level ≤ rank left → expression_depth left ≤ suc below → Within (longest_tree names (read names below) level below left ts) (left, ts)
   grown_within below level here left ts known f h l d = (grown_good names K spelled below (read names below) (read_sound names K spelled below) level here known left ts f l d h).shorter
 
   -- with an operand at its end that may have been read further
   grown_reaches : (below level : ℕ) (here : List Token) (o : Read) (make : ExpressionTree → ExpressionTree) (x : ExpressionTree × List Token) (a : ExpressionTree) (rest : List Token)
-      → K here → o ≡ Some (grown names (read names below) level below (make x.0) x.1) → Within x (a, rest) → Fits names (make x.0) here
+      → K here → o ≡ Some (longest_tree names (read names below) level below (make x.0) x.1) → Within x (a, rest) → Fits names (make x.0) here
       → Takes (expression_tokens (make x.0)) here x.1 → level ≤ rank (make x.0) → expression_depth (make x.0) ≤ suc below → Reaches o (make a, rest)
   grown_reaches below level here o make x a rest known e w f h l d = record {
-    found = grown names (read names below) level below (make x.0) x.1;
+    found = longest_tree names (read names below) level below (make x.0) x.1;
     is = e;
-    within = within_then (grown names (read names below) level below (make x.0) x.1) (make x.0, x.1) (make a, rest) (grown_within below level here (make x.0) x.1 known f h l d) (within_made make x a rest w);
+    within = within_then (longest_tree names (read names below) level below (make x.0) x.1) (make x.0, x.1) (make a, rest) (grown_within below level here (make x.0) x.1 known f h l d) (within_made make x a rest w);
   }
 
   -- what has no operand at its right end
   long_shut : (a : ExpressionTree) (here : List Token) → right_of a ≡ 18 → Fits names a here → AllReached a here
   long_shut a here shut f rest known h below level l d = record {
-    found = grown names (read names below) level below a rest;
+    found = longest_tree names (read names below) level below a rest;
     is = whole names a here f rest h below level l d (subst (λ (n : ℕ). Stops n rest) (sym shut) (stops_always rest));
     within = grown_within below level here a rest known f h l d;
   }
@@ -122,16 +122,16 @@ module _ (names : Names) (K : List Token → Type 0) (spelled : IsSpelled names 
   long_prefixed : (line : ℕ) (op : Prefix) (a : ExpressionTree) (here : List Token) → line ≡ line_here here → prefix_operand op ≤ rank a
       → ((mid : List Token) → Takes (expression_tokens a) (drop 1 here) mid → Clear names (drop 1 here) op) → AllLongest a (drop 1 here) → (rest : List Token) → K here
       → Takes (prefix_token op ∷ expression_tokens a) here rest → (below level : ℕ) → level ≤ 15 → expression_depth a ≤ below
-      → Reaches (read names (suc below) level here) (prefixed line op a, rest)
+      → Reaches (read names (suc below) level here) (prefix_tree line op a, rest)
   long_prefixed line op a [] e tight clear la rest known h below level l d = absurd h
   long_prefixed line op a (t ∷ ts) e tight clear la rest known h below level l d =
       let known' = spelled.tail t ts known in
       let o = la rest known' h.1 below (prefix_operand op) tight d in
       let x = o.found in
       let g = (read_sound names K spelled below).good (prefix_operand op) ts x.0 x.1 known' o.is in
-      let is = read_head names below level (t ∷ ts) (prefixed line op x.0) x.1
-      (head_front names (read names below) below t ts op x.0 x.1 h.0 (clear rest h.1) o.is ∙ on_line (λ k. prefixed k op x.0) line t.line x.1 e) (omega (arith, rank_prefixed line op x.0)) in
-      grown_reaches below level (t ∷ ts) (read names (suc below) level (t ∷ ts)) (prefixed line op) x a rest known is o.within
+      let is = read_head names below level (t ∷ ts) (prefix_tree line op x.0) x.1
+      (head_front names (read names below) below t ts op x.0 x.1 h.0 (clear rest h.1) o.is ∙ on_line (λ k. prefix_tree k op x.0) line t.line x.1 e) (omega (arith, rank_prefixed line op x.0)) in
+      grown_reaches below level (t ∷ ts) (read names (suc below) level (t ∷ ts)) (prefix_tree line op) x a rest known is o.within
       (fits_prefixed names line op x.0 (t ∷ ts) e g.tight g.fits)
       (subst (λ (ks : List TokenKind). Takes ks (t ∷ ts) x.1) (sym (tokens_prefixed line op x.0)) (h.0, g.takes))
       (omega (arith, rank_prefixed line op x.0)) (omega (arith, depth_prefixed line op x.0, g.shallow))
@@ -170,7 +170,7 @@ module _ (names : Names) (K : List Token → Type 0) (spelled : IsSpelled names 
   module _ (a : ExpressionTree) (here : List Token) (f : Fits names a here) where
     long_join : (op : Join) (b : ExpressionTree) → join_left op ≤ rank a → join_right op ≤ rank b → AllLongest b (behind a 1 here) → (rest : List Token) → K here
         → Takes (expression_tokens a ++ (kind.Mark (join_mark op) ∷ expression_tokens b)) here rest → (below level : ℕ) → level ≤ join_rank op
-        → expression_depth a ≤ below → expression_depth b ≤ below → Reaches (read names (suc below) level here) (joined op a b, rest)
+        → expression_depth a ≤ below → expression_depth b ≤ below → Reaches (read names (suc below) level here) (join_tree op a b, rest)
     long_join op b left right lb rest known h below level l d k =
         let p = parts_at (expression_tokens a) (kind.Mark (join_mark op)) (expression_tokens b) here rest h in
         let place : behind a 1 here ≡ p.after = takes_behind 1 (expression_tokens a) here (p.token ∷ p.after) p.left in
@@ -178,9 +178,9 @@ module _ (names : Names) (K : List Token → Type 0) (spelled : IsSpelled names 
         let o = subst (λ (x : List Token). AllLongest b x) place lb rest known' p.right below (join_right op) right k in
         let x = o.found in
         let g = (read_sound names K spelled below).good (join_right op) p.after x.0 x.1 known' o.is in
-        let is = goes_whole names (follow.Join op) a here p.token p.after (joined op a x.0) x.1 (whole names a here f (p.token ∷ p.after) p.left) p.kind below level l left d
+        let is = goes_whole names (follow.Join op) a here p.token p.after (join_tree op a x.0) x.1 (whole names a here f (p.token ∷ p.after) p.left) p.kind below level l left d
         (goes_join names (read names below) a p.after op x.0 x.1 o.is) in
-        grown_reaches below level here (read names (suc below) level here) (joined op a) x b rest known is o.within
+        grown_reaches below level here (read names (suc below) level here) (join_tree op a) x b rest known is o.within
         (fits_joined names op a x.0 here left g.tight f (subst (λ (y : List Token). Fits names x.0 y) (sym place) g.fits))
         (subst (λ (ks : List TokenKind). Takes ks here x.1) (sym (tokens_joined op a x.0)) (takes_then (expression_tokens a) (kind.Mark (join_mark op) ∷ expression_tokens x.0) here (p.token ∷ p.after) x.1 p.left (p.kind, g.takes)))
         (omega (arith, rank_joined op a x.0)) (omega (arith, depth_joined op a x.0, g.shallow))

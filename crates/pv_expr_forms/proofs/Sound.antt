@@ -6,7 +6,7 @@ use Rattle.pv_tree.specs.Syntax.{ExpressionTree}
 use Rattle.pv_tree.specs.Levels.{rank}
 use Rattle.pv_tree.specs.Spelling.{expression_tokens}
 use Rattle.pv_tree.specs.Spells.{Names}
-use Rattle.pv_expr_forms.specs.Reader.{Reads, head, grown, deeper, read}
+use Rattle.pv_expr_forms.specs.Reader.{Reads, head, longest_tree, deeper, read}
 use Rattle.pv_expr_forms.proofs.Runs.{takes_length, takes_known}
 use Rattle.pv_expr_forms.proofs.Steps.{guarded, followed, some_is, Shortens}
 use Rattle.pv_expr_forms.proofs.Trees.{some_tokens}
@@ -18,8 +18,8 @@ deeper_good : (names : Names) (K : List Token → Type 0) → IsSpelled names K 
 unfolding deeper
 deeper_good names K spelled below r s = record {
   good = λ level ts a rest known e.
-      let f = followed (λ (x : ExpressionTree × List Token). cond (leb level (rank x.0)) (Some (grown names r level below x.0 x.1)) None) (head names r below ts) (a, rest) e in
-      let x = grown names r level below f.0.0 f.0.1 in
+      let f = followed (λ (x : ExpressionTree × List Token). cond (leb level (rank x.0)) (Some (longest_tree names r level below x.0 x.1)) None) (head names r below ts) (a, rest) e in
+      let x = longest_tree names r level below f.0.0 f.0.1 in
       let g = guarded (leb level (rank f.0.0)) (Some x) (a, rest) f.2 in
       let h = head_good names K spelled below r s ts f.0.0 f.0.1 known f.1 in
       let b = grown_good names K spelled below r s level ts known f.0.0 f.0.1 h.fits (leb-true _ _ g.0) h.shallow h.takes in

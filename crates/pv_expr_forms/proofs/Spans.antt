@@ -11,7 +11,7 @@ use Rattle.pv_tree.specs.Tables.{Tables, declaration_at}
 use Rattle.pv_tree.specs.Spelling.{declaration_tokens}
 use Rattle.pv_tree.specs.Grammar.{kinds}
 use Rattle.pv_tree.specs.TypeNames.{TypeMap, type_seen, names_of, AreTied}
-use Rattle.pv_expr_forms.specs.Reader.{further, arguments, read}
+use Rattle.pv_expr_forms.specs.Reader.{more_arguments, arguments, read}
 use Rattle.pv_expr_forms.proofs.Runs.{Takes, takes_rest, takes_length, kinds_taken, takes_kinds, takes_by_kinds}
 use Rattle.pv_expr_forms.proofs.Steps.{arguments_step, some_is}
 use Rattle.pv_expr_forms.proofs.Heads.{IsSpelled}
@@ -70,7 +70,7 @@ read_forward is_type types u tokens tied deep level at next a p q e =
 pub arguments_next : (is_type : ℕ → Bool) (types : TypeMap) (u : Tables) (tokens : List Token) → AreTied types u tokens → (deep : ℕ) (before : ArgumentTrees) (at : ℕ)
     → at ≤ length tokens
     → arguments (read (names_of is_type types u.forest tokens) deep) before (drop at tokens)
-    ≡ option_and_then (λ x. further (arguments (read (names_of is_type types u.forest tokens) deep)) (Argument before x.0) x.1) (read (names_of is_type types u.forest tokens) deep 2 (drop at tokens))
+    ≡ option_and_then (λ x. more_arguments (arguments (read (names_of is_type types u.forest tokens) deep)) (Argument before x.0) x.1) (read (names_of is_type types u.forest tokens) deep 2 (drop at tokens))
 arguments_next is_type types u tokens tied deep before at p =
     let names = names_of is_type types u.forest tokens in
     arguments_step (IsEnd tokens) (read names deep) (read_shortens names (IsEnd tokens) (names_spelled is_type types u tokens tied) deep) before (drop at tokens) (at_end tokens at p)

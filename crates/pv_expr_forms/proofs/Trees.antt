@@ -15,7 +15,7 @@ use Rattle.pv_expr_forms.specs.declared.follows.Prefix.{Prefix}
 use Rattle.pv_expr_forms.specs.declared.follows.Prefix.TheVariants as prefix
 use Rattle.pv_expr_forms.specs.declared.follows.Join.{Join}
 use Rattle.pv_expr_forms.specs.declared.follows.Join.TheVariants as join
-use Rattle.pv_expr_forms.specs.Follows.{prefix_token, prefix_operand, prefixed, join_mark, join_rank, join_left, join_right, joined}
+use Rattle.pv_expr_forms.specs.Follows.{prefix_token, prefix_operand, prefix_tree, join_mark, join_rank, join_left, join_right, join_tree}
 
 -- ---- lines
 
@@ -44,43 +44,43 @@ line_is names (Comma line a b) here f = f.0
 
 -- ---- what each operator before an operand, and each between two, makes
 
-pub tokens_prefixed : (line : ℕ) (op : Prefix) (a : ExpressionTree) → expression_tokens (prefixed line op a) ≡ prefix_token op ∷ expression_tokens a
+pub tokens_prefixed : (line : ℕ) (op : Prefix) (a : ExpressionTree) → expression_tokens (prefix_tree line op a) ≡ prefix_token op ∷ expression_tokens a
 tokens_prefixed line prefix.Increment a = refl
 tokens_prefixed line prefix.Decrement a = refl
 tokens_prefixed line prefix.Sizeof a = refl
 tokens_prefixed line (prefix.Unary op) a = refl
 
-pub depth_prefixed : (line : ℕ) (op : Prefix) (a : ExpressionTree) → expression_depth (prefixed line op a) ≡ suc (expression_depth a)
+pub depth_prefixed : (line : ℕ) (op : Prefix) (a : ExpressionTree) → expression_depth (prefix_tree line op a) ≡ suc (expression_depth a)
 depth_prefixed line prefix.Increment a = refl
 depth_prefixed line prefix.Decrement a = refl
 depth_prefixed line prefix.Sizeof a = refl
 depth_prefixed line (prefix.Unary op) a = refl
 
-pub rank_prefixed : (line : ℕ) (op : Prefix) (a : ExpressionTree) → rank (prefixed line op a) ≡ 15
+pub rank_prefixed : (line : ℕ) (op : Prefix) (a : ExpressionTree) → rank (prefix_tree line op a) ≡ 15
 rank_prefixed line prefix.Increment a = refl
 rank_prefixed line prefix.Decrement a = refl
 rank_prefixed line prefix.Sizeof a = refl
 rank_prefixed line (prefix.Unary op) a = refl
 
 pub fits_prefixed : (names : Names) (line : ℕ) (op : Prefix) (a : ExpressionTree) (here : List Token) → line ≡ line_here here → prefix_operand op ≤ rank a
-    → Fits names a (drop 1 here) → Fits names (prefixed line op a) here
+    → Fits names a (drop 1 here) → Fits names (prefix_tree line op a) here
 fits_prefixed names line prefix.Increment a here e l f = (e, l, f)
 fits_prefixed names line prefix.Decrement a here e l f = (e, l, f)
 fits_prefixed names line prefix.Sizeof a here e l f = (e, l, f)
 fits_prefixed names line (prefix.Unary op) a here e l f = (e, l, f)
 
-pub tokens_joined : (op : Join) (a b : ExpressionTree) → expression_tokens (joined op a b) ≡ expression_tokens a ++ (kind.Mark (join_mark op) ∷ expression_tokens b)
+pub tokens_joined : (op : Join) (a b : ExpressionTree) → expression_tokens (join_tree op a b) ≡ expression_tokens a ++ (kind.Mark (join_mark op) ∷ expression_tokens b)
 tokens_joined (join.Binary op) a b = refl
 tokens_joined (join.Assign op) a b = refl
 tokens_joined join.Comma a b = refl
 
-pub rank_joined : (op : Join) (a b : ExpressionTree) → rank (joined op a b) ≡ join_rank op
+pub rank_joined : (op : Join) (a b : ExpressionTree) → rank (join_tree op a b) ≡ join_rank op
 rank_joined (join.Binary op) a b = refl
 rank_joined (join.Assign op) a b = refl
 rank_joined join.Comma a b = refl
 
 pub fits_joined : (names : Names) (op : Join) (a b : ExpressionTree) (here : List Token) → join_left op ≤ rank a → join_right op ≤ rank b → Fits names a here
-    → Fits names b (behind a 1 here) → Fits names (joined op a b) here
+    → Fits names b (behind a 1 here) → Fits names (join_tree op a b) here
 fits_joined names (join.Binary op) a b here l r f g = (line_is names a here f, l, r, f, g)
 fits_joined names (join.Assign op) a b here l r f g = (line_is names a here f, l, r, f, g)
 fits_joined names join.Comma a b here l r f g = (line_is names a here f, l, r, f, g)

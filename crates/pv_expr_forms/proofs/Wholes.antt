@@ -17,8 +17,8 @@ use Rattle.pv_expr_forms.specs.declared.follows.Prefix.{Prefix}
 use Rattle.pv_expr_forms.specs.declared.follows.Join.{Join}
 use Rattle.pv_expr_forms.specs.declared.follows.Follow.{Follow}
 use Rattle.pv_expr_forms.specs.declared.follows.Follow.TheVariants as follow
-use Rattle.pv_expr_forms.specs.Follows.{prefix_token, prefix_operand, prefixed, join_mark, join_left, join_right, joined, follow_mark, follow_rank, follow_left}
-use Rattle.pv_expr_forms.specs.Reader.{Read, is_text, texts_in_row, goes_on, grown, read}
+use Rattle.pv_expr_forms.specs.Follows.{prefix_token, prefix_operand, prefix_tree, join_mark, join_left, join_right, join_tree, follow_mark, follow_rank, follow_left}
+use Rattle.pv_expr_forms.specs.Reader.{Read, is_text, texts_in_row, goes_on, longest_tree, read}
 use Rattle.pv_expr_forms.proofs.Runs.{Takes, takes_parts, parts_at, takes_behind, takes_past, one_token, takes_rest, begun_at}
 use Rattle.pv_expr_forms.proofs.Operators.{follow_law, operand_cases}
 use Rattle.pv_expr_forms.proofs.Steps.{depth_joined, grown_on, grown_stop}
@@ -28,7 +28,7 @@ use Rattle.pv_expr_forms.proofs.Forms.{on_line, head_name, head_number, head_cha
 
 -- reading what an expression spells comes to that expression, and goes on from there
 abbrev pub IsWhole : Names → ExpressionTree → (here rest : List Token) → Type 0
-IsWhole names a here rest = (below level : ℕ) → level ≤ rank a → expression_depth a ≤ suc below → Stops (right_of a) rest → read names (suc below) level here ≡ Some (grown names (read names below) level below a rest)
+IsWhole names a here rest = (below level : ℕ) → level ≤ rank a → expression_depth a ≤ suc below → Stops (right_of a) rest → read names (suc below) level here ≡ Some (longest_tree names (read names below) level below a rest)
 
 -- so wherever it ends
 abbrev pub AllWhole : Names → ExpressionTree → (here : List Token) → Type 0
@@ -45,7 +45,7 @@ exact_by names a here rest w (suc below) level l d s =
 -- an expression that goes on
 pub goes_whole : (names : Names) (f : Follow) (a : ExpressionTree) (here : List Token) (t : Token) (ts : List Token) (b : ExpressionTree) (rest : List Token)
     → IsWhole names a here (t ∷ ts) → t.kind ≡ kind.Mark (follow_mark f) → (below level : ℕ) → level ≤ follow_rank f → follow_left f ≤ rank a → expression_depth a ≤ below
-    → goes_on names (read names below) a f ts ≡ Some (b, rest) → read names (suc below) level here ≡ Some (grown names (read names below) level below b rest)
+    → goes_on names (read names below) a f ts ≡ Some (b, rest) → read names (suc below) level here ≡ Some (longest_tree names (read names below) level below b rest)
 goes_whole names f a here t ts b rest w k below level l left d e =
     w below level (omega (arith, (follow_law f).le)) (omega arith) (closes a f t ts k left)
     ∙ ap (λ (x : ExpressionTree × List Token). let y : Read = Some x in y) (grown_on names (read names below) level below a (t ∷ ts) b rest (longer_on names (read names below) level below a f t ts k l left d ∙ e))
@@ -117,14 +117,14 @@ whole_paren names line a (t ∷ ts) rest e one none w h below level l d s =
 
 pub whole_prefixed : (names : Names) (line : ℕ) (op : Prefix) (a : ExpressionTree) (here rest : List Token) → line ≡ line_here here → prefix_operand op ≤ rank a
     → ((mid : List Token) → Takes (expression_tokens a) (drop 1 here) mid → Clear names (drop 1 here) op) → AllWhole names a (drop 1 here)
-    → Takes (prefix_token op ∷ expression_tokens a) here rest → IsWhole names (prefixed line op a) here rest
+    → Takes (prefix_token op ∷ expression_tokens a) here rest → IsWhole names (prefix_tree line op a) here rest
 whole_prefixed names line op a [] rest e tight clear w h below level l d s = absurd h
 whole_prefixed names line op a (t ∷ ts) rest e tight clear w h below level l d s =
     let least : 14 ≤ prefix_operand op = elim (operand_cases op) [ inl q ↦ omega arith | inr q ↦ omega arith ] in
     let stops : Stops 14 rest = subst (λ (n : ℕ). Stops n rest) (right_prefixed line op a) s in
     let inside = exact_by names a ts rest (w rest h.1) below (prefix_operand op) tight (omega (arith, d, depth_prefixed line op a)) (stops_more 14 (prefix_operand op) rest least stops) in
-    read_head names below level (t ∷ ts) (prefixed line op a) rest
-    (head_front names (read names below) below t ts op a rest h.0 (clear rest h.1) inside ∙ on_line (λ k. prefixed k op a) line t.line rest e) l
+    read_head names below level (t ∷ ts) (prefix_tree line op a) rest
+    (head_front names (read names below) below t ts op a rest h.0 (clear rest h.1) inside ∙ on_line (λ k. prefix_tree k op a) line t.line rest e) l
 
 pub whole_sizeof_type : (names : Names) (line : ℕ) (type : DeclarationTree) (here rest : List Token) → line ≡ line_here here → IsTypeName names type (drop 2 here)
     → Takes (kind.Word word.Sizeof ∷ kind.Mark mark.OpenParen ∷ (declaration_tokens type ++ kind.Mark mark.CloseParen ∷ [])) here rest
@@ -157,7 +157,7 @@ whole_cast names line type a (t ∷ ts) rest e n tight w h below level l d s =
 
 module _ (names : Names) (a : ExpressionTree) (here : List Token) (wa : AllWhole names a here) where
   pub whole_join : (op : Join) (b : ExpressionTree) (rest : List Token) → join_left op ≤ rank a → join_right op ≤ rank b → AllWhole names b (behind a 1 here)
-      → Takes (expression_tokens a ++ (kind.Mark (join_mark op) ∷ expression_tokens b)) here rest → IsWhole names (joined op a b) here rest
+      → Takes (expression_tokens a ++ (kind.Mark (join_mark op) ∷ expression_tokens b)) here rest → IsWhole names (join_tree op a b) here rest
   whole_join op b rest left right wb h below level l d s =
       let p = parts_at (expression_tokens a) (kind.Mark (join_mark op)) (expression_tokens b) here rest h in
       let place : behind a 1 here ≡ p.after = takes_behind 1 (expression_tokens a) here (p.token ∷ p.after) p.left in
@@ -165,7 +165,7 @@ module _ (names : Names) (a : ExpressionTree) (here : List Token) (wa : AllWhole
       let deep = depth_joined op a b in
       let stops : Stops (join_right op) rest = subst (λ (n : ℕ). Stops n rest) (right_joined op a b) s in
       let last = exact_by names b p.after rest (wb' rest p.right) below (join_right op) right (omega (arith, deep, d)) stops in
-      goes_whole names (follow.Join op) a here p.token p.after (joined op a b) rest (wa (p.token ∷ p.after) p.left) p.kind below level (omega (arith, l, rank_joined op a b)) left (omega (arith, deep, d))
+      goes_whole names (follow.Join op) a here p.token p.after (join_tree op a b) rest (wa (p.token ∷ p.after) p.left) p.kind below level (omega (arith, l, rank_joined op a b)) left (omega (arith, deep, d))
       (goes_join names (read names below) a p.after op b rest last)
 
   pub whole_ask : (b c : ExpressionTree) (rest : List Token) → 4 ≤ rank a → 1 ≤ rank b → 3 ≤ rank c → AllWhole names b (behind a 1 here)

@@ -14,9 +14,9 @@ abbrev pub IsBehind : List Token → Option ℕ → Option (List Token) → Type
 IsBehind tokens answer reading = MatchOption answer (reading ≡ None) (λ next. (reading ≡ Some (drop next tokens)) × (next ≤ length tokens))
 
 -- a node's number and a place, as a tree and the tokens from there
-abbrev pub seen : Forest → List Token → Option (NodeId × ℕ) → Read
-seen f tokens None = None
-seen f tokens (Some x) = Some (expression_at f x.0, drop x.1 tokens)
+abbrev pub expression_and_rest : Forest → List Token → Option (NodeId × ℕ) → Read
+expression_and_rest f tokens None = None
+expression_and_rest f tokens (Some x) = Some (expression_at f x.0, drop x.1 tokens)
 
 -- what is answered is an expression's node, and a place among the tokens
 abbrev pub IsThere : Tables → List Token → Option (NodeId × ℕ) → Type 0
@@ -25,7 +25,7 @@ IsThere u tokens (Some x) = Is u is_expression x.0 × (x.1 ≤ length tokens)
 
 -- what the code answers is what reading on lists gives
 pub record Answers (u : Tables) (tokens : List Token) (answer : Option (NodeId × ℕ)) (reading : Read) : Type 0 where
-  pub is : seen u.forest tokens answer ≡ reading
+  pub is : expression_and_rest u.forest tokens answer ≡ reading
   pub there : IsThere u tokens answer
 
 -- the same of what reading gives from a place on, unless memory is wanting

@@ -50,11 +50,11 @@ prefix_operand prefix.Sizeof = 15
 prefix_operand (prefix.Unary op) = 14
 
 -- 6.5.3p1: the operator with its operand
-abbrev pub prefixed : (line : ℕ) → Prefix → ExpressionTree → ExpressionTree
-prefixed line prefix.Increment a = PreIncrement line a
-prefixed line prefix.Decrement a = PreDecrement line a
-prefixed line prefix.Sizeof a = SizeofExpr line a
-prefixed line (prefix.Unary op) a = Unary line op a
+abbrev pub prefix_tree : (line : ℕ) → Prefix → ExpressionTree → ExpressionTree
+prefix_tree line prefix.Increment a = PreIncrement line a
+prefix_tree line prefix.Decrement a = PreDecrement line a
+prefix_tree line prefix.Sizeof a = SizeofExpr line a
+prefix_tree line (prefix.Unary op) a = Unary line op a
 
 -- ---- between two operands (6.5.5 to 6.5.14, 6.5.16, 6.5.17)
 
@@ -120,10 +120,10 @@ join_right (join.Assign op) = 2
 join_right join.Comma = 2
 
 -- 6.5.5 to 6.5.17: the whole, whose first token is that of its left operand
-abbrev pub joined : Join → (a b : ExpressionTree) → ExpressionTree
-joined (join.Binary op) a b = Binary (expression_line a) op a b
-joined (join.Assign op) a b = Assign (expression_line a) op a b
-joined join.Comma a b = Comma (expression_line a) a b
+abbrev pub join_tree : Join → (a b : ExpressionTree) → ExpressionTree
+join_tree (join.Binary op) a b = Binary (expression_line a) op a b
+join_tree (join.Assign op) a b = Assign (expression_line a) op a b
+join_tree join.Comma a b = Comma (expression_line a) a b
 
 -- ---- behind an operand
 

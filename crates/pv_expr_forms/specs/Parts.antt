@@ -43,5 +43,5 @@ name_next is_type [] = None
 name_next is_type (t ∷ ts) = option_map (λ n. (n, ts)) (name_of_kind is_type t.kind)
 
 -- what is made with such a name (6.5.2p1)
-unfoldable pub named : (ℕ → Bool) → (ℕ → ExpressionTree) → List Token → Read
-named is_type make ts = option_map (λ x. (make x.0, x.1)) (name_next is_type ts)
+unfoldable pub made_with_name : (ℕ → Bool) → (ℕ → ExpressionTree) → List Token → Read
+made_with_name is_type make ts = option_map (λ x. (make x.0, x.1)) (name_next is_type ts)

@@ -14,7 +14,7 @@ use Rattle.pv_expr_forms.specs.declared.follows.Prefix.{Prefix}
 use Rattle.pv_expr_forms.specs.declared.follows.Prefix.TheVariants as prefix
 use Rattle.pv_expr_forms.specs.declared.follows.Follow.{Follow}
 use Rattle.pv_expr_forms.specs.declared.follows.Follow.TheVariants as follow
-use Rattle.pv_expr_forms.specs.Follows.{prefix_of, prefix_operand, prefixed, join_right, joined, follow_of, follow_rank, follow_left}
+use Rattle.pv_expr_forms.specs.Follows.{prefix_of, prefix_operand, prefix_tree, join_right, join_tree, follow_of, follow_rank, follow_left}
 
 -- what reading gives: a tree, and the tokens behind it
 abbrev pub Read : Type 0
@@ -69,8 +69,8 @@ texts_in_row next [] = 0
 texts_in_row next (t ∷ ts) = if is_text next t.kind then suc (texts_in_row (suc next) ts) else 0
 
 -- what stands in parentheses, once it is read (6.5.1p1)
-unfoldable pub closed : (line : ℕ) → ExpressionTree → List Token → Read
-closed line a ts = option_map (λ rest. (Paren line a, rest)) (after is_close ts)
+unfoldable pub paren_end : (line : ℕ) → ExpressionTree → List Token → Read
+paren_end line a ts = option_map (λ rest. (Paren line a, rest)) (after is_close ts)
 
 -- a cast, once its type name is read (6.5.4)
 unfoldable pub cast_to : Reads → (below line : ℕ) → DeclarationTree → List Token → Read
@@ -80,20 +80,20 @@ cast_to read below line type ts =
     else None
 
 -- behind an opening parenthesis: a cast where a type name begins, else an expression (6.5.1p1, 6.5.4p1)
-unfoldable pub opened : Names → Reads → (below line : ℕ) → List Token → Read
-opened names read below line ts =
+unfoldable pub behind_open : Names → Reads → (below line : ℕ) → List Token → Read
+behind_open names read below line ts =
     if begins_type names ts
     then option_and_then (λ x. cast_to read below line x.0 x.1) (names.type_at ts)
-    else option_and_then (λ x. closed line x.0 x.1) (read 1 ts)
+    else option_and_then (λ x. paren_end line x.0 x.1) (read 1 ts)
 
 -- behind an operator that stands before its operand (6.5.3p1)
-unfoldable pub fronted : Reads → (line : ℕ) → Option Prefix → List Token → Read
-fronted read line None ts = None
-fronted read line (Some op) ts = option_map (λ x. (prefixed line op x.0, x.1)) (read (prefix_operand op) ts)
+unfoldable pub prefix_behind : Reads → (line : ℕ) → Option Prefix → List Token → Read
+prefix_behind read line None ts = None
+prefix_behind read line (Some op) ts = option_map (λ x. (prefix_tree line op x.0, x.1)) (read (prefix_operand op) ts)
 
 -- the size of a type, once its name is read (6.5.3.4)
-unfoldable pub measured : (below line : ℕ) → DeclarationTree → List Token → Read
-measured below line type ts =
+unfoldable pub sizeof_named_type : (below line : ℕ) → DeclarationTree → List Token → Read
+sizeof_named_type below line type ts =
     if nat_le (declaration_depth type) below then option_map (λ rest. (SizeofType line type, rest)) (after is_close ts) else None
 
 -- a parenthesis opens, and a type name begins behind it (6.5.3p1)
@@ -102,11 +102,11 @@ opens_type names [] = false
 opens_type names (t ∷ ts) = is_open t.kind && begins_type names ts
 
 -- behind `sizeof` (6.5.3p1)
-unfoldable pub sized : Names → Reads → (below line : ℕ) → List Token → Read
-sized names read below line ts =
+unfoldable pub sizeof_behind : Names → Reads → (below line : ℕ) → List Token → Read
+sizeof_behind names read below line ts =
     if opens_type names ts
-    then option_and_then (λ x. measured below line x.0 x.1) (names.type_at (drop 1 ts))
-    else fronted read line (Some prefix.Sizeof) ts
+    then option_and_then (λ x. sizeof_named_type below line x.0 x.1) (names.type_at (drop 1 ts))
+    else prefix_behind read line (Some prefix.Sizeof) ts
 
 -- what a token begins (6.5.1p1, 6.5.3p1, 6.5.4p1)
 unfoldable pub head_of : Names → Reads → (below line : ℕ) → TokenKind → List Token → Read
@@ -114,9 +114,9 @@ head_of names read below line (kind.Name n) ts = if names.is_type n then None el
 head_of names read below line (kind.Number value decimal unsigned longs) ts = Some (Number line value decimal unsigned longs, ts)
 head_of names read below line (kind.Character value) ts = Some (Character line value, ts)
 head_of names read below line (kind.Text n) ts = Some (Text line n (texts_in_row (suc n) ts), drop (texts_in_row (suc n) ts) ts)
-head_of names read below line (kind.Word word.Sizeof) ts = sized names read below line ts
-head_of names read below line (kind.Mark mark.OpenParen) ts = opened names read below line ts
-head_of names read below line k ts = fronted read line (prefix_of k) ts
+head_of names read below line (kind.Word word.Sizeof) ts = sizeof_behind names read below line ts
+head_of names read below line (kind.Mark mark.OpenParen) ts = behind_open names read below line ts
+head_of names read below line k ts = prefix_behind read line (prefix_of k) ts
 
 -- a tree that nothing went on from yet (6.5.1p1, 6.5.3p1, 6.5.4p1)
 unfoldable pub head : Names → Reads → (below : ℕ) → List Token → Read
@@ -126,31 +126,31 @@ head names read below (t ∷ ts) = head_of names read below t.line t.kind ts
 -- ---- forms that go on from a tree
 
 -- behind the index of an element (6.5.2p1)
-unfoldable pub indexed : (left i : ExpressionTree) → List Token → Read
-indexed left i ts = option_map (λ rest. (Index (expression_line left) left i, rest)) (after is_bracket ts)
+unfoldable pub index_end : (left i : ExpressionTree) → List Token → Read
+index_end left i ts = option_map (λ rest. (Index (expression_line left) left i, rest)) (after is_bracket ts)
 
 -- behind the second operand of `?` (6.5.15p1)
-unfoldable pub asked : Reads → (left b : ExpressionTree) → List Token → Read
-asked read left b ts = option_and_then (λ rest. option_map (λ x. (Conditional (expression_line left) left b x.0, x.1)) (read 3 rest)) (after is_colon ts)
+unfoldable pub third_operand : Reads → (left b : ExpressionTree) → List Token → Read
+third_operand read left b ts = option_and_then (λ rest. option_map (λ x. (Conditional (expression_line left) left b x.0, x.1)) (read 3 rest)) (after is_colon ts)
 
 -- the arguments from one on, to the closing parenthesis, behind those before it (6.5.2p1)
-unfoldable pub further : (ArgumentTrees → List Token → Option (ArgumentTrees × List Token)) → ArgumentTrees → List Token → Option (ArgumentTrees × List Token)
-further go before [] = None
-further go before (t ∷ ts) = if is_comma t.kind then go before ts else if is_close t.kind then Some (before, ts) else None
+unfoldable pub more_arguments : (ArgumentTrees → List Token → Option (ArgumentTrees × List Token)) → ArgumentTrees → List Token → Option (ArgumentTrees × List Token)
+more_arguments go before [] = None
+more_arguments go before (t ∷ ts) = if is_comma t.kind then go before ts else if is_close t.kind then Some (before, ts) else None
 
 -- the same in at most so many steps
 unfoldable pub arguments_for : (steps : ℕ) → Reads → ArgumentTrees → List Token → Option (ArgumentTrees × List Token)
 arguments_for zero read before ts = None
-arguments_for (suc steps) read before ts = option_and_then (λ x. further (arguments_for steps read) (Argument before x.0) x.1) (read 2 ts)
+arguments_for (suc steps) read before ts = option_and_then (λ x. more_arguments (arguments_for steps read) (Argument before x.0) x.1) (read 2 ts)
 
 -- the arguments of a call (6.5.2p1)
 unfoldable pub arguments : Reads → ArgumentTrees → List Token → Option (ArgumentTrees × List Token)
 arguments read before ts = arguments_for (suc (length ts)) read before ts
 
 -- behind the parenthesis that opens a call's arguments (6.5.2p1)
-unfoldable pub called : Reads → (left : ExpressionTree) → List Token → Read
-called read left [] = None
-called read left (t ∷ ts) =
+unfoldable pub call_behind : Reads → (left : ExpressionTree) → List Token → Read
+call_behind read left [] = None
+call_behind read left (t ∷ ts) =
     if is_close t.kind
     then Some (Call (expression_line left) left NoArguments, ts)
     else option_map (λ x. (Call (expression_line left) left x.0, x.1)) (arguments read NoArguments (t ∷ ts))
@@ -161,54 +161,54 @@ selected_by names make (kind.Name n) ts = if names.is_type n then None else Some
 selected_by names make _ ts = None
 
 -- the same of the next token
-unfoldable pub selected : Names → (ℕ → ExpressionTree) → List Token → Read
-selected names make [] = None
-selected names make (t ∷ ts) = selected_by names make t.kind ts
+unfoldable pub selection_behind : Names → (ℕ → ExpressionTree) → List Token → Read
+selection_behind names make [] = None
+selection_behind names make (t ∷ ts) = selected_by names make t.kind ts
 
 -- the tree that goes on from left so (6.5.2p1, 6.5.5p1 to 6.5.17p1)
 unfoldable pub goes_on : Names → Reads → (left : ExpressionTree) → Follow → List Token → Read
-goes_on names read left (follow.Join op) ts = option_map (λ x. (joined op left x.0, x.1)) (read (join_right op) ts)
-goes_on names read left follow.Ask ts = option_and_then (λ x. asked read left x.0 x.1) (read 1 ts)
-goes_on names read left follow.Index ts = option_and_then (λ x. indexed left x.0 x.1) (read 1 ts)
-goes_on names read left follow.Call ts = called read left ts
-goes_on names read left follow.Dot ts = selected names (Member (expression_line left) left) ts
-goes_on names read left follow.Arrow ts = selected names (Arrow (expression_line left) left) ts
+goes_on names read left (follow.Join op) ts = option_map (λ x. (join_tree op left x.0, x.1)) (read (join_right op) ts)
+goes_on names read left follow.Ask ts = option_and_then (λ x. third_operand read left x.0 x.1) (read 1 ts)
+goes_on names read left follow.Index ts = option_and_then (λ x. index_end left x.0 x.1) (read 1 ts)
+goes_on names read left follow.Call ts = call_behind read left ts
+goes_on names read left follow.Dot ts = selection_behind names (Member (expression_line left) left) ts
+goes_on names read left follow.Arrow ts = selection_behind names (Arrow (expression_line left) left) ts
 goes_on names read left follow.Increment ts = Some (PostIncrement (expression_line left) left, ts)
 goes_on names read left follow.Decrement ts = Some (PostDecrement (expression_line left) left, ts)
 
 -- the same, where the level of the whole and that of left are such as the grammar has
-unfoldable pub tried : Names → Reads → (level : ℕ) → (left : ExpressionTree) → Option Follow → List Token → Read
-tried names read level left None ts = None
-tried names read level left (Some f) ts =
+unfoldable pub tree_on : Names → Reads → (level : ℕ) → (left : ExpressionTree) → Option Follow → List Token → Read
+tree_on names read level left None ts = None
+tree_on names read level left (Some f) ts =
     if nat_le level (follow_rank f) && nat_le (follow_left f) (rank left) then goes_on names read left f ts else None
 
 -- the next longer tree that begins with left
-unfoldable pub longer : Names → Reads → (level below : ℕ) → (left : ExpressionTree) → List Token → Read
-longer names read level below left [] = None
-longer names read level below left (t ∷ ts) =
-    if nat_le (expression_depth left) below then tried names read level left (follow_of t.kind) ts else None
+unfoldable pub longer_tree : Names → Reads → (level below : ℕ) → (left : ExpressionTree) → List Token → Read
+longer_tree names read level below left [] = None
+longer_tree names read level below left (t ∷ ts) =
+    if nat_le (expression_depth left) below then tree_on names read level left (follow_of t.kind) ts else None
 
 -- goes on with what was read, if anything was
-abbrev pub carried : {A : Type 0} → (ExpressionTree → List Token → A) → A → Read → A
-carried go stop None = stop
-carried go stop (Some x) = go x.0 x.1
+abbrev pub on_with_tree : {A : Type 0} → (ExpressionTree → List Token → A) → A → Read → A
+on_with_tree go stop None = stop
+on_with_tree go stop (Some x) = go x.0 x.1
 
 -- the longest tree that begins with left, in so many steps at most
 unfoldable pub grown_for : (steps : ℕ) → Names → Reads → (level below : ℕ) → (left : ExpressionTree) → List Token → ExpressionTree × List Token
 grown_for zero names read level below left ts = (left, ts)
 grown_for (suc steps) names read level below left ts =
-    carried (grown_for steps names read level below) (left, ts) (longer names read level below left ts)
+    on_with_tree (grown_for steps names read level below) (left, ts) (longer_tree names read level below left ts)
 
 -- the longest tree that begins with left
-unfoldable pub grown : Names → Reads → (level below : ℕ) → (left : ExpressionTree) → List Token → ExpressionTree × List Token
-grown names read level below left ts = grown_for (suc below) names read level below left ts
+unfoldable pub longest_tree : Names → Reads → (level below : ℕ) → (left : ExpressionTree) → List Token → ExpressionTree × List Token
+longest_tree names read level below left ts = grown_for (suc below) names read level below left ts
 
 -- ---- all of it
 
 -- one level of depth more
 unfoldable pub deeper : Names → Reads → (below : ℕ) → Reads
 deeper names read below level ts =
-    option_and_then (λ x. if nat_le level (rank x.0) then Some (grown names read level below x.0 x.1) else None) (head names read below ts)
+    option_and_then (λ x. if nat_le level (rank x.0) then Some (longest_tree names read level below x.0 x.1) else None) (head names read below ts)
 
 -- the longest tree of a level, of at most so much depth
 unfoldable pub read : Names → (depth : ℕ) → Reads

@@ -1,7 +1,7 @@
 // What a typed unit holds, by the calls that make it and read it. Short functions: what one costs to prove grows faster
 // than the number of its calls.
 ghost use Rattle.std.specs.Prelude.{◌<◌, ◌≡◌, IfSome, IsTrue, is_some, length};
-ghost use Rattle.pv_typed.specs.Tables.{whole};
+ghost use Rattle.pv_typed.specs.Tables.{whole_unit};
 ghost use Rattle.pv_typed.specs.NodeTrees.{IsExpression};
 ghost use Rattle.pv_typed.specs.Formed.{Grown, no_tables};
 ghost use Rattle.pv_typed.specs.Known.{AreKnown};
@@ -345,7 +345,7 @@ fn has_functions(rt: &impl Abort, alloc: Global, u: &mut TypedUnit, int: TypeId)
 fn declare_main(rt: &impl Abort, u: &mut TypedUnit, t: TypeId) -> u32
     requires { IsReady u.old t }
     ensures ready { IsReady u.new t }
-    ensures main { IsTrue (is_some (main_of (whole u.new))) }
+    ensures main { IsTrue (is_some (main_of (whole_unit u.new))) }
     ensures grown { Grown u.old u.new }
 {
     let name = u.add_name(b"main").expect(rt, "no memory");

@@ -12,7 +12,7 @@ use Rattle.pv_library.specs.declared.library.Library.{Library}
 use Rattle.pv_libc.specs.declared.values.Arg.{Arg}
 use Rattle.pv_typed.specs.Known.{Each}
 use Rattle.pv_eval.specs.States.{Setting, State, Gives}
-use Rattle.pv_eval.specs.Acting.{acted, answered, by_side, sided, pair_count, noted}
+use Rattle.pv_eval.specs.Acting.{after_doing, answer_with_sides, by_side, with_side, pair_count, after_telling}
 use Rattle.pv_eval.specs.ActingParts.{one_kept, keeps_both}
 use Rattle.pv_eval.specs.Operations.{Op, Converts, Calculates, CalculatesOne, Tests, Negates, Accepts, Needs, Moves, Subtracts, Orders, Equals, Follows, Selects, Finds, TakesPart, Reads, Writes, NamesObject, NamesLiteral, NamesFunction, Makes, MakesLiteral, MakesFunction, Ends, BeginsBody, EndsBody, Fills, Puts, PutsText, Asks, does, act}
 use Rattle.pv_eval.specs.Library.{asks}
@@ -24,7 +24,7 @@ use Rattle.pv_exec.proofs.Memory.Operations.{does-on}
 use Rattle.pv_guards.specs.Worths.{IsThere}
 use Rattle.pv_guards.specs.Fair.{IsArgument}
 use Rattle.pv_guards.specs.Soundness.{Value, IsSound, IsAfter}
-use Rattle.pv_guards.specs.Plain.{plainly, act_plainly}
+use Rattle.pv_guards.specs.Plain.{plain_doing, act_plainly}
 use Rattle.pv_guards.specs.Promises.{Promised}
 use Rattle.pv_guards.proofs.Living.{same-live}
 use Rattle.pv_guards.proofs.Made.{led-changes}
@@ -61,7 +61,7 @@ module _ (b : Setting) (os : List ℕ) where
       (after-table b os w s z l a refl, sound-table b os w s z l a refl)
   side-if false w k high s l = (order.here, s)
 
-  pub sides-keep : (w : World) (k : ℕ) (high : Bool) → IsSound b os w → IsAfter w (sided w k high) × IsSound b os (sided w k high)
+  pub sides-keep : (w : World) (k : ℕ) (high : Bool) → IsSound b os w → IsAfter w (with_side w k high) × IsSound b os (with_side w k high)
   sides-keep w k high s = let c = keeps_both (twin_at w.memory.table.pairs k) in side-if c w k high s (kept-if c w k high refl)
 
   module _ (Q : Worth → World → Type 0) (keeps : (v : Worth) (w z : World) → IsAfter w z → Q v w → Q v z) where
@@ -72,26 +72,26 @@ module _ (b : Setting) (os : List ℕ) where
     side-after None v line z told s h = tt
     side-after (Some high) v line z told s h =
         let g = sides-keep z (pair_count z) high h.1 in
-        (after-both h.0 g.0, g.1, keeps v z (sided z (pair_count z) high) g.0 h.2)
+        (after-both h.0 g.0, g.1, keeps v z (with_side z (pair_count z) high) g.0 h.2)
 
-    pair-after : (c : Bool) (o : Option Bool) (v : Worth) (line : ℕ) (z : World) (told : Told) (s : State) → Left s.world v z → After order Q s.world (if c then by_side o v line z told s else Gives v (noted z told s))
+    pair-after : (c : Bool) (o : Option Bool) (v : Worth) (line : ℕ) (z : World) (told : Told) (s : State) → Left s.world v z → After order Q s.world (if c then by_side o v line z told s else Gives v (after_telling z told s))
     pair-after true o v line z told s h = side-after o v line z told s h
     pair-after false o v line z told s h = h
 
-    answered-after : (sides : Option (List Bool)) (v : Worth) (line : ℕ) (z : World) (told : Told) (s : State) → Left s.world v z → After order Q s.world (answered sides v line z told s)
+    answered-after : (sides : Option (List Bool)) (v : Worth) (line : ℕ) (z : World) (told : Told) (s : State) → Left s.world v z → After order Q s.world (answer_with_sides sides v line z told s)
     answered-after None v line z told s h = h
     answered-after (Some sides) v line z told s h = pair-after (nat_lt (pair_count s.world) (pair_count z)) (slice_get sides (pair_count s.world)) v line z told s h
 
-    pub acted-after : (line : ℕ) (d : Done) (s : State) → Answering (Left s.world) d → After order Q s.world (acted b line d s)
+    pub acted-after : (line : ℕ) (d : Done) (s : State) → Answering (Left s.world) d → After order Q s.world (after_doing b line d s)
     acted-after line (Answers v z told) s h = answered-after b.sides v line z told s h
     acted-after line (Fails y p z told) s h = tt
     acted-after line (Breaks y p z told) s h = tt
 
     -- an operation that does what its rule says, and what it leaves
-    pub acts-so : (line : ℕ) (o : Op) (w : World) → ((z : World) → IsAfter w z → IsSound b os z → (does b o z ≡ plainly b o z) × Answering (Left z) (plainly b o z)) → Holds order Q w (act b line o) (act_plainly b line o)
+    pub acts-so : (line : ℕ) (o : Op) (w : World) → ((z : World) → IsAfter w z → IsSound b os z → (does b o z ≡ plain_doing b o z) × Answering (Left z) (plain_doing b o z)) → Holds order Q w (act b line o) (act_plainly b line o)
     acts-so line o w h s g sound =
         let p = h s.world g sound in
-        (ap (λ d. acted b line d s) p.0, subst (λ d. After order Q s.world (acted b line d s)) (sym p.0) (acted-after line (plainly b o s.world) s p.1))
+        (ap (λ d. after_doing b line d s) p.0, subst (λ d. After order Q s.world (after_doing b line d s)) (sym p.0) (acted-after line (plain_doing b o s.world) s p.1))
 
   -- what was promised is promised in a later world
   arguments-keep : (w z : World) (args : List Arg) → IsAfter w z → Each (λ (x : Arg). IsArgument w.memory.table x.value) args → Each (λ (x : Arg). IsArgument z.memory.table x.value) args

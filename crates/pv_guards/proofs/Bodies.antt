@@ -5,7 +5,7 @@ use Rattle.std.specs.declared.option.Option.{Option}
 use Rattle.std.specs.FinMap as map
 use Rattle.pv_num.specs.declared.kinds.IntKind.TheVariants.{Int}
 use Rattle.pv_types.specs.Ty.{Ty, Tys, NoTys, MoreTys, VoidTy, IntTy, PointerTo, ArrayOf, StructTag, UnionTag, FunctionTy, ConstOf}
-use Rattle.pv_types.specs.Sorts.{bare}
+use Rattle.pv_types.specs.Sorts.{bare_type}
 use Rattle.pv_typed.specs.TypedStatement.{TypedStatement}
 use Rattle.pv_typed.specs.TypedUnits.{TypedFunction, layouts, object_at, function_at}
 use Rattle.pv_world.specs.Worlds.{Worth, Nothing, Missing, World, Bindings}
@@ -15,7 +15,7 @@ use Rattle.pv_world.specs.ObjectParts.{without_first}
 use Rattle.pv_eval.specs.States.{Setting, State, Res, Gives, Stops}
 use Rattle.pv_typed.specs.Known.{Each}
 use Rattle.pv_eval.specs.TypeForms.{lvalue, size_of, gives_none}
-use Rattle.pv_eval.specs.Acting.{sided}
+use Rattle.pv_eval.specs.Acting.{with_side}
 use Rattle.pv_eval.specs.Operations.{Makes, BeginsBody, EndsBody, Puts, works, act}
 use Rattle.pv_exec.specs.Flows.{Flow, Falls, Breaks, Continues, Returns, Below}
 use Rattle.pv_exec.specs.Blocks.{end_all}
@@ -60,13 +60,13 @@ values-like b w (MoreTys t ts) (MoreTys u us) (v ∷ vs) h g =
 
 -- 6.9.1p10: the parameters of a call whose arguments had their values in an earlier world
 module _ (b : Setting) (rest : List Bindings) (w0 : World) where
-  put-sure : (os : List ℕ) (line o : ℕ) (v : Worth) (t : Ty) (s : State) → IsIn o os → IsParameter b.unit o t → Value b w0 (bare t) v → IsThere v → Within b os rest w0 s.world
+  put-sure : (os : List ℕ) (line o : ℕ) (v : Worth) (t : Ty) (s : State) → IsIn o os → IsParameter b.unit o t → Value b w0 (bare_type t) v → IsThere v → Within b os rest w0 s.world
       → Sure (λ x z. Within b os rest w0 z) (act b line (Puts o 0 (lvalue b (object_at b.unit o).t) v) s) (act_plainly b line (Puts o 0 (lvalue b (object_at b.unit o).t) v) s)
   put-sure os line o v t s among m g there i =
       let u = (object_at b.unit o).t in
       let l = lvalue b u in
       let env = layouts b.unit in
-      let typed : IsOfType env (bare u) v = to-bare env u v ((m.1 env v).0 (from-bare env t v g.0)) in
+      let typed : IsOfType env (bare_type u) v = to-bare env u v ((m.1 env v).0 (from-bare env t v g.0)) in
       sure-more _ (λ x z. Within b os rest w0 z) (act b line (Puts o 0 l v) s) (act_plainly b line (Puts o 0 l v) s) (λ x z p. p.1)
       (piece b rest w0 os (λ x z. Unit {0}) (act b line (Puts o 0 l v)) (act_plainly b line (Puts o 0 l v)) s i
       (puts-holds b os line o s.world (in-scope b os o m.0.storage among) m.0.small 0 u v (omega arith) m.2 there (λ z a. (typed, value-later w0.memory.table z.memory.table (λ p h. a.made p (i.later.made p h)) v g.1))))
@@ -140,7 +140,7 @@ module _ (b : Setting) (os : List ℕ) (w : World) (s : IsSound b os w) where
       } in
       (a, sound, λ p k. k)
 
-  back-sided : (t : World) (v : Worth) (z : World) (k : ℕ) (high : Bool) → Back t v z → Back t v (sided z k high)
+  back-sided : (t : World) (v : Worth) (z : World) (k : ℕ) (high : Bool) → Back t v z → Back t v (with_side z k high)
   back-sided t v z k high h = let g = sides-keep b os z k high h.1 in (after-both h.0 g.0, g.1, λ p q. g.0.made p (h.2 p q))
 
   leaves-sure : (line : ℕ) (t : State) → Within b [] w.bodies w t.world → Sure (Back t.world) (act b line EndsBody t) (act_plainly b line EndsBody t)
@@ -173,7 +173,7 @@ module _ (b : Setting) (unit : IsTypedUnit b.unit) where
         where
           missing : IsResult r → Value b z r Missing
           missing (inl n) = let k : true ≡ false = sym n ∙ (sym (ap gives_none e) ∙ q) in absurd cc
-          missing (inr v) = (from-bare (layouts b.unit) r Missing (value-missing (layouts b.unit) (bare r) v), tt)
+          missing (inr v) = (from-bare (layouts b.unit) r Missing (value-missing (layouts b.unit) (bare_type r) v), tt)
 
   flow-value : (x : TypedFunction) (r : Ty) (us : Tys) → IsTypedFunction b.unit x r us → x.t ≡ FunctionTy r us false → (fl : Flow) (z : World) → FlowOf b r fl z → Value b z r (value_by b x fl)
   flow-value x r us f e (Returns v) z h = h

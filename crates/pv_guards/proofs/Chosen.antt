@@ -14,7 +14,7 @@ use Rattle.pv_inst.specs.SameParts.{made_passes}
 use Rattle.pv_inst.proofs.Fitting.{and_left, and_right}
 use Rattle.pv_object.specs.declared.values.Pointer.{Pointer}
 use Rattle.pv_object.specs.declared.values.Stop.{Stop}
-use Rattle.pv_object.specs.Access.{chosen, is_null}
+use Rattle.pv_object.specs.Access.{first_survivor, is_null}
 use Rattle.pv_object.specs.Operations.{code, code_in, code_by}
 use Rattle.pv_object.proofs.Survivors.{pick}
 use Rattle.pv_guards.specs.Soundness.{IsCode, IsCodeIn}
@@ -27,7 +27,7 @@ code-passes : (zap : Bool) (o : Option Instance) (a : ℕ) → made_passes zap o
 code-passes zap None a h = absurd (false≢true h)
 code-passes zap (Some x) a h = and_left (is_function x.kind) (eqb x.base a) (and_right x.live _ h)
 
-chosen-code : (T : Table) (p : Prov) (a : ℕ) (tried : Tried) (i : ℕ) → use_answer T p (Code a) ≡ Ok tried → chosen (stands T.pairs p) tried ≡ Some i → IsCode T i
+chosen-code : (T : Table) (p : Prov) (a : ℕ) (tried : Tried) (i : ℕ) → use_answer T p (Code a) ≡ Ok tried → first_survivor (stands T.pairs p) tried ≡ Some i → IsCode T i
 chosen-code T Empty a tried i e h = absurd (no-error _ tried e)
 chosen-code T (Inst j) a tried i e h =
     let s = stands T.pairs (Inst j) in
@@ -44,7 +44,7 @@ code-in T None tried h = tt
 code-in T (Some i) tried h = h i refl
 
 code-by : (T : Table) (p : Pointer) (r : Result Tried Miss) → use_answer T p.prov (Code p.address) ≡ r → IfOk (code_by (stands T.pairs p.prov) r) (IsCodeOf T)
-code-by T p (Ok tried) e = code-in T (chosen (stands T.pairs p.prov) tried) tried (λ i f. chosen-code T p.prov p.address tried i e f)
+code-by T p (Ok tried) e = code-in T (first_survivor (stands T.pairs p.prov) tried) tried (λ i f. chosen-code T p.prov p.address tried i e f)
 code-by T p (Err m) e = tt
 
 found-if : (T : Table) (c : Bool) (w v : Result (ℕ × Tried) Stop × Table) → IfOk w.0 (IsCodeOf T) → IfOk v.0 (IsCodeOf T) → IfOk (cond c w v).0 (IsCodeOf T)

@@ -1,7 +1,7 @@
 -- The laws: from what holds of pieces of a run to what is said of expressions and operations (C17 6.3, 6.5).
 use Rattle.std.proofs.Common.{◌≡◌, ℕ, List, [], ◌∷◌, sym, subst}
 use Rattle.pv_types.specs.Ty.{Ty, Tys, NoTys, MoreTys}
-use Rattle.pv_types.specs.Sorts.{bare}
+use Rattle.pv_types.specs.Sorts.{bare_type}
 use Rattle.pv_seq.specs.Sequencing.{Access}
 use Rattle.pv_typed.specs.TypedTree.{TypedTree}
 use Rattle.pv_library.specs.declared.library.Library.{Library}
@@ -37,7 +37,7 @@ module _ (b : Setting) (os : List ℕ) where
   values-later w z NoTys [] g h = tt
   values-later w z NoTys (v ∷ vs) g h = absurd h
   values-later w z (MoreTys t ts) [] g h = absurd h
-  values-later w z (MoreTys t ts) (v ∷ vs) g h = (order.keeps (bare t) v g h.0, h.1, values-later w z ts vs g h.2)
+  values-later w z (MoreTys t ts) (v ∷ vs) g h = (order.keeps (bare_type t) v g h.0, h.1, values-later w z ts vs g h.2)
 
   after-of : (t : Ty) (w : World) (r : Res Worth) → GivesSound b os (λ v. v) t w r → After order (λ v z. Value b z t v) w r
   after-of t w (Gives v s) h = (h.2, h.1, h.0)

@@ -7,7 +7,7 @@ use Rattle.std.proofs.Common.{◌≡◌, ℕ, zero, suc, ◌<◌, pos, false, tr
 use Rattle.pv_num.specs.declared.kinds.IntKind.TheVariants.{Int}
 use Rattle.pv_num.specs.declared.operators.BinOp.TheVariants.{Add}
 use Rattle.pv_types.specs.Ty.{Ty, Tys, NoTys, MoreTys, VoidTy, IntTy, FunctionTy}
-use Rattle.pv_types.specs.Sorts.{bare}
+use Rattle.pv_types.specs.Sorts.{bare_type}
 use Rattle.pv_typed.specs.Known.{Each}
 use Rattle.pv_typed.specs.Mains.{literal_text, heap_text, main_text}
 use Rattle.pv_typed.specs.TypedTree.{TypedTree, Node, Constant, Object, Call, Read, Assign, Arithmetic, NoArguments, MoreArguments}
@@ -122,7 +122,7 @@ no-characters (suc l) = tt
 pub unit-typed : IsTypedUnit unit
 unit-typed = record {
   functions = functions-typed;
-  main = λ f e. subst (λ f. (f < length unit.functions) × HasBody unit f × ((r : Ty) × ((function_at unit f).t ≡ FunctionTy r NoTys false) × (bare r ≡ int))) (same-main f e) (omega arith, refl, (int, refl, refl));
+  main = λ f e. subst (λ f. (f < length unit.functions) × HasBody unit f × ((r : Ty) × ((function_at unit f).t ≡ FunctionTy r NoTys false) × (bare_type r ≡ int))) (same-main f e) (omega arith, refl, (int, refl, refl));
   characters = no-characters;
   literals = λ l h. absurd h;
   statics = λ o h. absurd h;

@@ -10,19 +10,19 @@ use Rattle.pv_typed.specs.declared.nodes.IncrementOperator.{IncrementOperator}
 use Rattle.pv_typed.specs.TypedUnits.{layouts}
 use Rattle.pv_guards.proofs.Numbers.{promoted_widens, promoted_is, one_fits}
 use Rattle.pv_types.specs.Ty.{Ty, Tys, NoTys, MoreTys, VoidTy, IntTy, PointerTo, ArrayOf, StructTag, UnionTag, FunctionTy, ConstOf}
-use Rattle.pv_types.specs.Sorts.{bare, is_void, is_pointer}
+use Rattle.pv_types.specs.Sorts.{bare_type, is_void, is_pointer}
 use Rattle.pv_typed.specs.TypedTree.{TypedTree, Node, Form, Arguments, NoArguments, MoreArguments, line_of, Constant, Object, Function, String, Subscript, Call, CallPointer, LibraryCall, Member, MemberOfValue, Arrow, Increment, Address, Indirection, Unary, Not, Sizeof, Cast, Arithmetic, PointerSum, PointerDifference, PointerOrder, PointerEquality, LogicalAnd, LogicalOr, Conditional, Assign, CompoundAssign, PointerAssign, Comma, Read, ArrayPointer, Convert, type_of}
-use Rattle.pv_seq.specs.Sequencing.{Access, Open, opened, sequence_point, beside, rivals, noted}
+use Rattle.pv_seq.specs.Sequencing.{Access, Open, open_against, sequence_point, beside, rivals, with_access}
 use Rattle.pv_world.specs.declared.got.How.TheVariants.{Rounds}
 use Rattle.pv_world.specs.Worlds.{Worth, Nothing, Missing, Scalar, Whole, World}
 use Rattle.pv_world.specs.Worths.{int, is_true, pointer_of, value_of}
 use Rattle.pv_eval.specs.States.{Setting, State, Res, Gives}
 use Rattle.pv_eval.specs.TypeForms.{Lvalue, lvalue, kind_of, element_size, pointed_to}
-use Rattle.pv_num.specs.Kinds.{promoted}
+use Rattle.pv_num.specs.Kinds.{promotion_of}
 use Rattle.pv_eval.specs.Conversions.{how_to}
 use Rattle.pv_eval.specs.Accesses.{access_to}
-use Rattle.pv_eval.specs.Sequenced.{Given, with_given, done, operand, later, doing, work}
-use Rattle.pv_eval.specs.Steps.{Calling, takes, converted, reading, writing, source_of, is_unequal, is_minus, is_after, is_down, combining, stepping, handed}
+use Rattle.pv_eval.specs.Sequenced.{Given, with_given, node_value, operand, later_operand, doing, work}
+use Rattle.pv_eval.specs.Steps.{Calling, takes, with_conversion, reading, writing, source_of, is_unequal, is_minus, is_after, is_down, combining, stepping, accepted_value}
 use Rattle.pv_eval.specs.Evaluation.{ev, ev_form, ev_call, ev_through, ev_ask}
 use Rattle.pv_eval.specs.Arguments.{argument}
 use Rattle.pv_eval.specs.CalleeParts.{function_in}
@@ -180,7 +180,7 @@ module _ (b : Setting) (os : List ℕ)
   operand-way w u t j e e' go go' h g =
       seq order (Gave order u) (Gave order t) w (e (beside j)) (e' (beside j)) (λ x s. go (with_given j x) x.value s) (λ x s. go' (with_given j x) x.value s) (h (beside j)) (λ x z f q. g (with_given j x) x.value z f q)
 
-  pub later-way : (w : World) (u t : Ty) (j : Open) (e e' : List Access → State → Res Given) (go go' : Open → Worth → State → Res Given) → ((fs : List Access) → Typed u w (e fs) (e' fs)) → ((j : Open) (v : Worth) (z : World) → To w z → Value b z u v → Typed t z (go j v) (go' j v)) → Typed t w (λ s. later e j s go) (λ s. later e' j s go')
+  pub later-way : (w : World) (u t : Ty) (j : Open) (e e' : List Access → State → Res Given) (go go' : Open → Worth → State → Res Given) → ((fs : List Access) → Typed u w (e fs) (e' fs)) → ((j : Open) (v : Worth) (z : World) → To w z → Value b z u v → Typed t z (go j v) (go' j v)) → Typed t w (λ s. later_operand e j s go) (λ s. later_operand e' j s go')
   later-way w u t j e e' go go' h g =
       seq order (Gave order u) (Gave order t) w (e j.foes) (e' j.foes) (λ x s. go (with_given j x) x.value s) (λ x s. go' (with_given j x) x.value s) (h j.foes) (λ x z f q. g (with_given j x) x.value z f q)
 
@@ -188,15 +188,15 @@ module _ (b : Setting) (os : List ℕ)
   doing-way w line o u t go go' p g = seq order (Is u) (Gave order t) w (act b line o) (act_plainly b line o) go go' (acts line o u w p) g
 
   pub work-way : (w : World) (line : ℕ) (o : Op) (t : Ty) (j : Open) → Promised b os w o t → Typed t w (work b line o j) (plain.work b line o j)
-  work-way w line o t j p = doing-way w line o t t (done j) (done j) p (λ v z f q. done-holds order z t j v q)
+  work-way w line o t j p = doing-way w line o t t (node_value j) (node_value j) p (λ v z f q. done-holds order z t j v q)
 
   pub reading-way : (w : World) (l : Lvalue) (line : ℕ) (p : Worth) (j : Open) (u t : Ty) (go go' : Open → Worth → State → Res Given) → Promised b os w (op.Reads l p (rivals j)) u → ((j : Open) (v : Worth) (z : World) → To w z → Value b z u v → Typed t z (go j v) (go' j v)) → Typed t w (λ s. reading b l line p j s go) (λ s. plain.reading b l line p j s go')
   reading-way w l line p j u t go go' h g =
-      doing-way w line (op.Reads l p (rivals j)) u t (λ v s. go (noted (access_to l (pointer_of p) false) j) v s) (λ v s. go' (noted (access_to l (pointer_of p) false) j) v s) h (λ v z f q. g (noted (access_to l (pointer_of p) false) j) v z f q)
+      doing-way w line (op.Reads l p (rivals j)) u t (λ v s. go (with_access (access_to l (pointer_of p) false) j) v s) (λ v s. go' (with_access (access_to l (pointer_of p) false) j) v s) h (λ v z f q. g (with_access (access_to l (pointer_of p) false) j) v z f q)
 
   pub writing-way : (w : World) (l : Lvalue) (line : ℕ) (p x : Worth) (from : Option ℕ) (j : Open) (u t : Ty) (go go' : Open → Worth → State → Res Given) → Promised b os w (op.Writes l p x from (rivals j)) u → ((j : Open) (v : Worth) (z : World) → To w z → Value b z u v → Typed t z (go j v) (go' j v)) → Typed t w (λ s. writing b l line p x from j s go) (λ s. plain.writing b l line p x from j s go')
   writing-way w l line p x from j u t go go' h g =
-      doing-way w line (op.Writes l p x from (rivals j)) u t (λ v s. go (noted (access_to l (pointer_of p) true) j) v s) (λ v s. go' (noted (access_to l (pointer_of p) true) j) v s) h (λ v z f q. g (noted (access_to l (pointer_of p) true) j) v z f q)
+      doing-way w line (op.Writes l p x from (rivals j)) u t (λ v s. go (with_access (access_to l (pointer_of p) true) j) v s) (λ v s. go' (with_access (access_to l (pointer_of p) true) j) v s) h (λ v z f q. g (with_access (access_to l (pointer_of p) true) j) v z f q)
 
   no : true ≡ false → ⊥
   no e = absurd cc
@@ -205,9 +205,9 @@ module _ (b : Setting) (os : List ℕ)
   as_it_is : (t u : Ty) (w : World) (v : Worth) → t ≡ u → Value b w t v → Holds order (Is u) w (λ s. Gives v s) (λ s. Gives v s)
   as_it_is t u w v e h = gives order (Is u) w v (λ z f. order.keeps u v f (subst (λ t. Value b w t v) e h))
 
-  pub converted-way : (x : TypedTree) (u : Ty) (w : World) (v : Worth) → IsTyped b.unit os x → HasType x u → Value b w (given_type x) v → Holds order (Is u) w (converted b x v) (plain.converted b x v)
+  pub converted-way : (x : TypedTree) (u : Ty) (w : World) (v : Worth) → IsTyped b.unit os x → HasType x u → Value b w (given_type x) v → Holds order (Is u) w (with_conversion b x v) (plain.with_conversion b x v)
   converted-way (Node t line turn (Convert (Node r m k y))) u w v h e g =
-      subst (λ q. Holds order (Is q) w (converted b (Node t line turn (Convert (Node r m k y))) v) (plain.converted b (Node t line turn (Convert (Node r m k y))) v)) e.1 (acts line (op.Converts (how_to b true r t) v) t w (r, g, inl (true, refl, cast-of r t h.2)))
+      subst (λ q. Holds order (Is q) w (with_conversion b (Node t line turn (Convert (Node r m k y))) v) (plain.with_conversion b (Node t line turn (Convert (Node r m k y))) v)) e.1 (acts line (op.Converts (how_to b true r t) v) t w (r, g, inl (true, refl, cast-of r t h.2)))
   converted-way (Node t line turn (Constant n)) u w v2 h e g2 = as_it_is t u w v2 e.1 g2
   converted-way (Node t line turn (Object o)) u w v2 h e g2 = absurd (no e.0)
   converted-way (Node t line turn (Function f)) u w v2 h e g2 = absurd (no e.0)
@@ -268,8 +268,8 @@ module _ (b : Setting) (os : List ℕ)
 
   stepping-way : (w : World) (line : ℕ) (t : Ty) (o : IncrementOperator) (v : Worth) → MayStep (layouts b.unit) t → Value b w t v → Holds order (Is t) w (stepping b line t o v) (plain.stepping b line t o v)
   stepping-way w line (IntTy k) o v m h =
-      combining-way w line (if is_down o then bin.Sub else bin.Add) (promoted k) k v (int (pos 1))
-      (k, promoted k, promoted_is k, promoted_widens k, step-right (is_down o) (promoted k), h, (one_fits k, tt), refl)
+      combining-way w line (if is_down o then bin.Sub else bin.Add) (promotion_of k) k v (int (pos 1))
+      (k, promotion_of k, promoted_is k, promoted_widens k, step-right (is_down o) (promotion_of k), h, (one_fits k, tt), refl)
   stepping-way w line (PointerTo s) o v m h =
       acts line (op.Moves (is_down o) true (element_size b (PointerTo s)) v (int (pos 1))) (PointerTo s) w (PointerTo s, IntTy Int, s, h, (one_fits Int, tt), m.small, refl)
   stepping-way w line VoidTy o v m h = absurd m
@@ -325,9 +325,9 @@ module _ (b : Setting) (os : List ℕ)
   module _ (call call' : Calling)
       (calls : (line f : ℕ) (t : Ty) (ts : Tys) (vs : List Worth) (w : World) → IsFunction b.unit f t ts → AreValues b w ts vs → Holds order (Is t) w (call f vs line) (call' f vs line)) where
     -- 6.5.2.2p7: an argument is converted, and there
-    handed-way : (x : TypedTree) (t : Ty) (w : World) (v : Worth) → IsTyped b.unit os x → HasType x t → Value b w (given_type x) v → Holds order (λ v w. Value b w t v × IsThere v) w (handed b x v) (plain.handed b x v)
+    handed-way : (x : TypedTree) (t : Ty) (w : World) (v : Worth) → IsTyped b.unit os x → HasType x t → Value b w (given_type x) v → Holds order (λ v w. Value b w t v × IsThere v) w (accepted_value b x v) (plain.accepted_value b x v)
     handed-way x t w v h e g =
-        seq order (Is t) (λ v w. Value b w t v × IsThere v) w (converted b x v) (plain.converted b x v) _ _ (converted-way x t w v h e g) (λ v z f q. acting.accepts-way b os (line_of x) t v z q)
+        seq order (Is t) (λ v w. Value b w t v × IsThere v) w (with_conversion b x v) (plain.with_conversion b x v) _ _ (converted-way x t w v h e g) (λ v z f q. acting.accepts-way b os (line_of x) t v z q)
 
     -- one argument more
     each-append : {A : Type 0} (P : A → Type 0) (xs : List A) (x : A) → Each P xs → P x → Each P (xs ++ x ∷ [])
@@ -384,85 +384,85 @@ module _ (b : Setting) (os : List ℕ)
           ticks order (Gave order (given_by t x)) w (takes turn x) (ev_form b call t line x fs) (plainly.ev_form b call' t line x fs) (form-typed t line x h fs w)
 
       form-typed : (t : Ty) (line : ℕ) (x : Form) → IsTypedForm b.unit os t x → (fs : List Access) (w : World) → Typed (given_by t x) w (ev_form b call t line x fs) (plainly.ev_form b call' t line x fs)
-      form-typed t line (Constant n) h fs w = done-holds order w t (opened fs) (int n) (subst (λ t. Value b w t (int n)) (sym h.1) (h.2, tt))
-      form-typed t line (Sizeof n) h fs w = done-holds order w t (opened fs) (int (pos n)) (subst (λ t. Value b w t (int (pos n))) (sym h.1) (h.2, tt))
-      form-typed t line (Object o) h fs w = work-way w line (op.NamesObject o) (PointerTo t) (opened fs) (t, refl, h)
-      form-typed t line (String l) h fs w = work-way w line (op.NamesLiteral l) (PointerTo t) (opened fs) (t, refl, h)
-      form-typed t line (Function f) h fs w = work-way w line (op.NamesFunction f) (PointerTo t) (opened fs) (t, refl, h)
+      form-typed t line (Constant n) h fs w = done-holds order w t (open_against fs) (int n) (subst (λ t. Value b w t (int n)) (sym h.1) (h.2, tt))
+      form-typed t line (Sizeof n) h fs w = done-holds order w t (open_against fs) (int (pos n)) (subst (λ t. Value b w t (int (pos n))) (sym h.1) (h.2, tt))
+      form-typed t line (Object o) h fs w = work-way w line (op.NamesObject o) (PointerTo t) (open_against fs) (t, refl, h)
+      form-typed t line (String l) h fs w = work-way w line (op.NamesLiteral l) (PointerTo t) (open_against fs) (t, refl, h)
+      form-typed t line (Function f) h fs w = work-way w line (op.NamesFunction f) (PointerTo t) (open_against fs) (t, refl, h)
       form-typed t line (Read a) h fs w =
-          operand-way w (given_type a) t (opened fs) (ev b call a) (plainly.ev b call' a) _ _ (λ fs. ev-typed a h.0 fs w) (λ j p z f q.
-          reading-way z (lvalue b (type_of a)) line p j t t done done (type_of a, refl, h.3, subst IsValueType h.2 h.4, h.2, place-value a h.1 z p q) (λ j v y g r. done-holds order y t j v r))
+          operand-way w (given_type a) t (open_against fs) (ev b call a) (plainly.ev b call' a) _ _ (λ fs. ev-typed a h.0 fs w) (λ j p z f q.
+          reading-way z (lvalue b (type_of a)) line p j t t node_value node_value (type_of a, refl, h.3, subst IsValueType h.2 h.4, h.2, place-value a h.1 z p q) (λ j v y g r. done-holds order y t j v r))
       form-typed t line (Address a) h fs w =
-          operand-way w (given_type a) t (opened fs) (ev b call a) (plainly.ev b call' a) done done (λ fs. ev-typed a h.0 fs w) (λ j v z f q.
+          operand-way w (given_type a) t (open_against fs) (ev b call a) (plainly.ev b call' a) node_value node_value (λ fs. ev-typed a h.0 fs w) (λ j v z f q.
           done-holds order z t j v (subst (λ u. Value b z u v) (sym h.2) (place-value a h.1 z v q)))
       form-typed t line (Convert a) h fs w =
-          operand-way w (given_type a) (type_of a) (opened fs) (ev b call a) (plainly.ev b call' a) done done (λ fs. ev-typed a h.0 fs w) (λ j v z f q.
+          operand-way w (given_type a) (type_of a) (open_against fs) (ev b call a) (plainly.ev b call' a) node_value node_value (λ fs. ev-typed a h.0 fs w) (λ j v z f q.
           done-holds order z (type_of a) j v (own-value a (type_of a) h.1 z v q))
       form-typed t line (Not a) h fs w =
-          operand-way w (given_type a) t (opened fs) (ev b call a) (plainly.ev b call' a) _ _ (λ fs. ev-typed a h.0 fs w) (λ j v z f q.
+          operand-way w (given_type a) t (open_against fs) (ev b call a) (plainly.ev b call' a) _ _ (λ fs. ev-typed a h.0 fs w) (λ j v z f q.
           work-way z line (op.Negates v) t j (given_type a, q, h.3))
       form-typed t line (Unary o a) h fs w =
-          operand-way w (given_type a) t (opened fs) (ev b call a) (plainly.ev b call' a) _ _ (λ fs. ev-typed a h.1 fs w) (λ j v z f q.
-          seq order (Is (IntTy h.0)) (Gave order t) z (converted b a v) (plain.converted b a v) _ _ (converted-way a (IntTy h.0) z v h.1 h.2 q) (λ v y g r.
+          operand-way w (given_type a) t (open_against fs) (ev b call a) (plainly.ev b call' a) _ _ (λ fs. ev-typed a h.1 fs w) (λ j v z f q.
+          seq order (Is (IntTy h.0)) (Gave order t) z (with_conversion b a v) (plain.with_conversion b a v) _ _ (converted-way a (IntTy h.0) z v h.1 h.2 q) (λ v y g r.
           work-way y line (op.CalculatesOne o (kind_of t) v) t j (subst (λ u. Promised b os y (op.CalculatesOne o (kind_of u) v) u) (sym h.4) (h.3, r, refl))))
       form-typed t line (Cast a) h fs w =
-          operand-way w (given_type a) t (opened fs) (ev b call a) (plainly.ev b call' a) _ _ (λ fs. ev-typed a h.0 fs w) (λ j v z f q.
+          operand-way w (given_type a) t (open_against fs) (ev b call a) (plainly.ev b call' a) _ _ (λ fs. ev-typed a h.0 fs w) (λ j v z f q.
           work-way z line (op.Converts (how_to b false (type_of a) t) v) t j (type_of a, own-value a (type_of a) h.1 z v q, inl (false, refl, h.2)))
       form-typed t line (Arithmetic o a d) h fs w =
-          operand-way w (given_type a) t (opened fs) (ev b call a) (plainly.ev b call' a) _ _ (λ fs. ev-typed a h.2 fs w) (λ j v z f q.
+          operand-way w (given_type a) t (open_against fs) (ev b call a) (plainly.ev b call' a) _ _ (λ fs. ev-typed a h.2 fs w) (λ j v z f q.
           operand-way z (given_type d) t j (ev b call d) (plainly.ev b call' d) _ _ (λ fs. ev-typed d h.4 fs z) (λ j x y g r.
-          seq order (Is (IntTy h.0)) (Gave order t) y (converted b a v) (plain.converted b a v) _ _ (converted-way a (IntTy h.0) y v h.2 h.3 (order.keeps (given_type a) v g q)) (λ v k i p.
-          seq order (Is (IntTy h.1)) (Gave order t) k (converted b d x) (plain.converted b d x) _ _ (converted-way d (IntTy h.1) k x h.4 h.5 (order.keeps (given_type d) x i r)) (λ x m n s.
+          seq order (Is (IntTy h.0)) (Gave order t) y (with_conversion b a v) (plain.with_conversion b a v) _ _ (converted-way a (IntTy h.0) y v h.2 h.3 (order.keeps (given_type a) v g q)) (λ v k i p.
+          seq order (Is (IntTy h.1)) (Gave order t) k (with_conversion b d x) (plain.with_conversion b d x) _ _ (converted-way d (IntTy h.1) k x h.4 h.5 (order.keeps (given_type d) x i r)) (λ x m n s.
           work-way m line (op.Calculates o (kind_of (type_of a)) v x) t j
           (subst (λ u. Promised b os m (op.Calculates o (kind_of u) v x) t) (sym h.3.1) (h.0, h.1, h.6, λ n g. g, h.7, order.keeps (IntTy h.0) v n p, s, h.8))))))
       form-typed t line (Comma a d) h fs w =
-          operand-way w (given_type a) t (opened fs) (ev b call a) (plainly.ev b call' a) _ _ (λ fs. ev-typed a h.0 fs w) (λ j v z f q.
-          later-way z (given_type d) t (sequence_point j) (ev b call d) (plainly.ev b call' d) done done (λ fs. ev-typed d h.2 fs z) (λ j x y g r.
+          operand-way w (given_type a) t (open_against fs) (ev b call a) (plainly.ev b call' a) _ _ (λ fs. ev-typed a h.0 fs w) (λ j v z f q.
+          later-way z (given_type d) t (sequence_point j) (ev b call d) (plainly.ev b call' d) node_value node_value (λ fs. ev-typed d h.2 fs z) (λ j x y g r.
           done-holds order y t j x (own-value d t h.3 y x r)))
       form-typed t line (Assign a d) h fs w =
-          operand-way w (given_type a) t (opened fs) (ev b call a) (plainly.ev b call' a) _ _ (λ fs. ev-typed a h.0 fs w) (λ j p z f q.
+          operand-way w (given_type a) t (open_against fs) (ev b call a) (plainly.ev b call' a) _ _ (λ fs. ev-typed a h.0 fs w) (λ j p z f q.
           operand-way z (given_type d) t j (ev b call d) (plainly.ev b call' d) _ _ (λ fs. ev-typed d h.2 fs z) (λ j v y g r.
-          seq order (Is t) (Gave order t) y (converted b d v) (plain.converted b d v) _ _ (converted-way d t y v h.2 h.3 r) (λ v k i s.
-          writing-way k (lvalue b (type_of a)) line p v (source_of d v) j t t done done
+          seq order (Is t) (Gave order t) y (with_conversion b d v) (plain.with_conversion b d v) _ _ (converted-way d t y v h.2 h.3 r) (λ v k i s.
+          writing-way k (lvalue b (type_of a)) line p v (source_of d v) j t t node_value node_value
           (type_of a, refl, h.5, subst IsValueType h.4 h.6, h.4, order.keeps (PointerTo (type_of a)) p (order.on g i) (place-value a h.1 z p q), s) (λ j v y g r. done-holds order y t j v r))))
-      form-typed t line (Call f xs) h fs w = call-typed t line f h.0 [] xs h.2 (opened fs) w (λ z g rest k. calls line f t h.0 rest z h.1 k)
+      form-typed t line (Call f xs) h fs w = call-typed t line f h.0 [] xs h.2 (open_against fs) w (λ z g rest k. calls line f t h.0 rest z h.1 k)
       form-typed t line (CallPointer a xs) h fs w =
           let ft = FunctionTy h.0 h.1 h.2 in
-          operand-way w (given_type a) t (opened fs) (ev b call a) (plainly.ev b call' a) _ _ (λ fs. ev-typed a h.3 fs w) (λ j p z f q.
+          operand-way w (given_type a) t (open_against fs) (ev b call a) (plainly.ev b call' a) _ _ (λ fs. ev-typed a h.3 fs w) (λ j p z f q.
           subst (λ x. Typed t z (ev_through b call line (pointed_to x) p [] xs j) (plainly.ev_through b call' line (pointed_to x) p [] xs j)) (sym h.4.0.1)
           (through-typed t line ft p h.1 h.2 [] xs h.6 j z (own-value a (PointerTo ft) h.4 z p q) (λ y g rest k f r.
           let one = called-function b h.0 h.1 h.2 (function_in f) r.0 r.1 h.7 in
           weaker order (Is h.0) (Is t) (λ v x m. ((h.5 (layouts b.unit) v).0 m.0, m.1)) y (call (function_in f) rest line) (call' (function_in f) rest line)
           (calls line (function_in f) h.0 h.1 rest y one.0 (k one.1)))))
-      form-typed t line (LibraryCall f xs) h fs w = ask-typed t line f h.0 h.1 [] xs h.2 h.3 (opened fs) w tt
+      form-typed t line (LibraryCall f xs) h fs w = ask-typed t line f h.0 h.1 [] xs h.2 h.3 (open_against fs) w tt
       form-typed t line (ArrayPointer a) h fs w =
-          operand-way w (given_type a) t (opened fs) (ev b call a) (plainly.ev b call' a) done done (λ fs. ev-typed a h.0 fs w) (λ j v z f q.
+          operand-way w (given_type a) t (open_against fs) (ev b call a) (plainly.ev b call' a) node_value node_value (λ fs. ev-typed a h.0 fs w) (λ j v z f q.
           done-holds order z t j v (subst (λ u. Value b z u v) (sym h.2.1) (place-value a h.1 z v q)))
       form-typed t line (Member a n) h fs w =
-          operand-way w (given_type a) (PointerTo t) (opened fs) (ev b call a) (plainly.ev b call' a) _ _ (λ fs. ev-typed a h.0 fs w) (λ j v z f q.
+          operand-way w (given_type a) (PointerTo t) (open_against fs) (ev b call a) (plainly.ev b call' a) _ _ (λ fs. ev-typed a h.0 fs w) (λ j v z f q.
           work-way z line (op.Selects n v) (PointerTo t) j (type_of a, t, place-value a h.1 z v q, refl))
       form-typed t line (Arrow a n) h fs w =
-          operand-way w (given_type a) (PointerTo t) (opened fs) (ev b call a) (plainly.ev b call' a) _ _ (λ fs. ev-typed a h.1 fs w) (λ j v z f q.
+          operand-way w (given_type a) (PointerTo t) (open_against fs) (ev b call a) (plainly.ev b call' a) _ _ (λ fs. ev-typed a h.1 fs w) (λ j v z f q.
           work-way z line (op.Selects n v) (PointerTo t) j (h.0, t, own-value a (PointerTo h.0) h.2 z v q, refl))
       form-typed t line (MemberOfValue a n) h fs w =
-          operand-way w (given_type a) t (opened fs) (ev b call a) (plainly.ev b call' a) _ _ (λ fs. ev-typed a h.0 fs w) (λ j v z f q.
+          operand-way w (given_type a) t (open_against fs) (ev b call a) (plainly.ev b call' a) _ _ (λ fs. ev-typed a h.0 fs w) (λ j v z f q.
           work-way z line (op.TakesPart n (lvalue b t) v) t j (type_of a, own-value a (type_of a) h.1 z v q, h.4, h.2, h.3, refl, h.5))
       form-typed t line (Indirection a) h fs w =
-          operand-way w (given_type a) (given_by t (Indirection a)) (opened fs) (ev b call a) (plainly.ev b call' a) _ _ (λ fs. ev-typed a h.1 fs w) (λ j v z f q.
+          operand-way w (given_type a) (given_by t (Indirection a)) (open_against fs) (ev b call a) (plainly.ev b call' a) _ _ (λ fs. ev-typed a h.1 fs w) (λ j v z f q.
           work-way z line (op.Follows (is_void t) v) (given_by t (Indirection a)) j (h.0, own-value a (PointerTo h.0) h.2 z v q, followed h.0 t h.3))
       form-typed t line (Subscript a d) h fs w =
-          operand-way w (given_type a) (PointerTo t) (opened fs) (ev b call a) (plainly.ev b call' a) _ _ (λ fs. ev-typed a h.0 fs w) (λ j v z f q.
+          operand-way w (given_type a) (PointerTo t) (open_against fs) (ev b call a) (plainly.ev b call' a) _ _ (λ fs. ev-typed a h.0 fs w) (λ j v z f q.
           operand-way z (given_type d) (PointerTo t) j (ev b call d) (plainly.ev b call' d) _ _ (λ fs. ev-typed d h.2 fs z) (λ j x y g r.
           work-way y line (op.Moves false (is_pointer (type_of a)) (element_size b (if is_pointer (type_of a) then type_of a else type_of d)) v x) (PointerTo t) j
           (type_of a, type_of d, t, order.keeps (type_of a) v g (own-value a (type_of a) h.1 z v q), own-value d (type_of d) h.3 y x r, element-small (type_of a) (type_of d) t h.4, refl)))
       form-typed t line (PointerSum o a d) h fs w =
-          operand-way w (given_type a) t (opened fs) (ev b call a) (plainly.ev b call' a) _ _ (λ fs. ev-typed a h.0 fs w) (λ j v z f q.
+          operand-way w (given_type a) t (open_against fs) (ev b call a) (plainly.ev b call' a) _ _ (λ fs. ev-typed a h.0 fs w) (λ j v z f q.
           operand-way z (given_type d) t j (ev b call d) (plainly.ev b call' d) _ _ (λ fs. ev-typed d h.2 fs z) (λ j x y g r.
           let e = sum-pointer (type_of a) (type_of d) t h.4 in
           work-way y line (op.Moves (is_minus o) (is_pointer (type_of a)) (element_size b t) v x) t j
           (type_of a, type_of d, e.1.0, order.keeps (type_of a) v g (own-value a (type_of a) h.1 z v q), own-value d (type_of d) h.3 y x r, e.0, e.1.1)))
       form-typed t line (PointerDifference a d) h fs w =
-          operand-way w (given_type a) t (opened fs) (ev b call a) (plainly.ev b call' a) _ _ (λ fs. ev-typed a h.2 fs w) (λ j v z f q.
+          operand-way w (given_type a) t (open_against fs) (ev b call a) (plainly.ev b call' a) _ _ (λ fs. ev-typed a h.2 fs w) (λ j v z f q.
           operand-way z (given_type d) t j (ev b call d) (plainly.ev b call' d) _ _ (λ fs. ev-typed d h.4 fs z) (λ j x y g r.
           work-way y line (op.Subtracts (element_size b (type_of a)) v x) t j (
             h.0,
@@ -474,57 +474,57 @@ module _ (b : Setting) (os : List ℕ)
             h.7,
           )))
       form-typed t line (PointerOrder o a d) h fs w =
-          operand-way w (given_type a) t (opened fs) (ev b call a) (plainly.ev b call' a) _ _ (λ fs. ev-typed a h.2 fs w) (λ j v z f q.
+          operand-way w (given_type a) t (open_against fs) (ev b call a) (plainly.ev b call' a) _ _ (λ fs. ev-typed a h.2 fs w) (λ j v z f q.
           operand-way z (given_type d) t j (ev b call d) (plainly.ev b call' d) _ _ (λ fs. ev-typed d h.4 fs z) (λ j x y g r.
           work-way y line (op.Orders o v x) t j
           (h.0, h.1, order.keeps (PointerTo h.0) v g (own-value a (PointerTo h.0) h.3 z v q), own-value d (PointerTo h.1) h.5 y x r, h.6, h.7)))
       form-typed t line (PointerEquality o a d) h fs w =
-          operand-way w (given_type a) t (opened fs) (ev b call a) (plainly.ev b call' a) _ _ (λ fs. ev-typed a h.2 fs w) (λ j v z f q.
+          operand-way w (given_type a) t (open_against fs) (ev b call a) (plainly.ev b call' a) _ _ (λ fs. ev-typed a h.2 fs w) (λ j v z f q.
           operand-way z (given_type d) t j (ev b call d) (plainly.ev b call' d) _ _ (λ fs. ev-typed d h.4 fs z) (λ j x y g r.
-          seq order (Is (PointerTo h.0)) (Gave order t) y (converted b a v) (plain.converted b a v) _ _ (converted-way a (PointerTo h.0) y v h.2 h.3 (order.keeps (given_type a) v g q)) (λ v k i p.
-          seq order (Is (PointerTo h.1)) (Gave order t) k (converted b d x) (plain.converted b d x) _ _ (converted-way d (PointerTo h.1) k x h.4 h.5 (order.keeps (given_type d) x i r)) (λ x m n s.
+          seq order (Is (PointerTo h.0)) (Gave order t) y (with_conversion b a v) (plain.with_conversion b a v) _ _ (converted-way a (PointerTo h.0) y v h.2 h.3 (order.keeps (given_type a) v g q)) (λ v k i p.
+          seq order (Is (PointerTo h.1)) (Gave order t) k (with_conversion b d x) (plain.with_conversion b d x) _ _ (converted-way d (PointerTo h.1) k x h.4 h.5 (order.keeps (given_type d) x i r)) (λ x m n s.
           work-way m line (op.Equals (is_unequal o) v x) t j (h.0, h.1, order.keeps (PointerTo h.0) v n p, s, h.6)))))
       form-typed t line (LogicalAnd a d) h fs w =
-          operand-way w (given_type a) t (opened fs) (ev b call a) (plainly.ev b call' a) _ _ (λ fs. ev-typed a h.0 fs w) (λ j v z f q.
+          operand-way w (given_type a) t (open_against fs) (ev b call a) (plainly.ev b call' a) _ _ (λ fs. ev-typed a h.0 fs w) (λ j v z f q.
           doing-way z line (op.Tests v) t t _ _ (given_type a, q, h.6) (λ v y g r.
           choice order (Gave order t) y (is_true v) _ _ _ _
           (later-way y (given_type d) t (sequence_point j) (ev b call d) (plainly.ev b call' d) _ _ (λ fs. ev-typed d h.2 fs y) (λ j x k i p. work-way k line (op.Tests x) t j (given_type d, p, h.6)))
           (done-holds order y t (sequence_point j) v r)))
       form-typed t line (LogicalOr a d) h fs w =
-          operand-way w (given_type a) t (opened fs) (ev b call a) (plainly.ev b call' a) _ _ (λ fs. ev-typed a h.0 fs w) (λ j v z f q.
+          operand-way w (given_type a) t (open_against fs) (ev b call a) (plainly.ev b call' a) _ _ (λ fs. ev-typed a h.0 fs w) (λ j v z f q.
           doing-way z line (op.Tests v) t t _ _ (given_type a, q, h.6) (λ v y g r.
           choice order (Gave order t) y (is_true v) _ _ _ _
           (done-holds order y t (sequence_point j) v r)
           (later-way y (given_type d) t (sequence_point j) (ev b call d) (plainly.ev b call' d) _ _ (λ fs. ev-typed d h.2 fs y) (λ j x k i p. work-way k line (op.Tests x) t j (given_type d, p, h.6)))))
       form-typed t line (Conditional a d c) h fs w =
-          operand-way w (given_type a) t (opened fs) (ev b call a) (plainly.ev b call' a) _ _ (λ fs. ev-typed a h.0 fs w) (λ j v z f q.
+          operand-way w (given_type a) t (open_against fs) (ev b call a) (plainly.ev b call' a) _ _ (λ fs. ev-typed a h.0 fs w) (λ j v z f q.
           doing-way z line (op.Tests v) (IntTy Int) t _ _ (given_type a, q, refl) (λ v y g r.
           choice order (Gave order t) y (is_true v) _ _ _ _
           (later-way y (given_type d) t (sequence_point j) (ev b call d) (plainly.ev b call' d) _ _ (λ fs. ev-typed d h.3 fs y) (λ j x k i p.
-          seq order (Is t) (Gave order t) k (converted b d x) (plain.converted b d x) (done j) (done j) (converted-way d t k x h.3 h.4 p) (λ x m n s. done-holds order m t j x s)))
+          seq order (Is t) (Gave order t) k (with_conversion b d x) (plain.with_conversion b d x) (node_value j) (node_value j) (converted-way d t k x h.3 h.4 p) (λ x m n s. done-holds order m t j x s)))
           (later-way y (given_type c) t (sequence_point j) (ev b call c) (plainly.ev b call' c) _ _ (λ fs. ev-typed c h.5 fs y) (λ j x k i p.
-          seq order (Is t) (Gave order t) k (converted b c x) (plain.converted b c x) (done j) (done j) (converted-way c t k x h.5 h.6 p) (λ x m n s. done-holds order m t j x s)))))
+          seq order (Is t) (Gave order t) k (with_conversion b c x) (plain.with_conversion b c x) (node_value j) (node_value j) (converted-way c t k x h.5 h.6 p) (λ x m n s. done-holds order m t j x s)))))
       form-typed t line (CompoundAssign o k a d) h fs w =
           let valued : IsValueType t = subst IsValueType (sym h.6) tt in
-          operand-way w (given_type a) t (opened fs) (ev b call a) (plainly.ev b call' a) _ _ (λ fs. ev-typed a h.2 fs w) (λ j p z f q.
+          operand-way w (given_type a) t (open_against fs) (ev b call a) (plainly.ev b call' a) _ _ (λ fs. ev-typed a h.2 fs w) (λ j p z f q.
           reading-way z (lvalue b (type_of a)) line p j t t _ _ (type_of a, refl, h.10, subst IsValueType h.7 valued, h.7, place-value a h.3 z p q) (λ j v y g r.
           operand-way y (given_type d) t j (ev b call d) (plainly.ev b call' d) _ _ (λ fs. ev-typed d h.4 fs y) (λ j x c i s.
           seq order (Is (IntTy k)) (Gave order t) c (act b line (op.Converts (Rounds k) v)) (act_plainly b line (op.Converts (Rounds k) v)) _ _ (acts line (op.Converts (Rounds k) v) (IntTy k) c (t, order.keeps t v i r, inr (k, refl, refl, subst IsIntegerType (sym h.6) tt))) (λ v m n s2.
-          seq order (Is (IntTy h.1)) (Gave order t) m (converted b d x) (plain.converted b d x) _ _ (converted-way d (IntTy h.1) m x h.4 h.5 (order.keeps (given_type d) x n s)) (λ x m2 n2 s3.
+          seq order (Is (IntTy h.1)) (Gave order t) m (with_conversion b d x) (plain.with_conversion b d x) _ _ (converted-way d (IntTy h.1) m x h.4 h.5 (order.keeps (given_type d) x n s)) (λ x m2 n2 s3.
           seq order (Is (IntTy (kind_of t))) (Gave order t) m2 (combining b line o k (kind_of t) v x) (plain.combining b line o k (kind_of t) v x) _ _ (combining-way m2 line o k (kind_of t) v x (k, h.1, h.8, λ n g. g, h.9, order.keeps (IntTy k) v n2 s2, s3, refl)) (λ v m3 n3 s4.
-          writing-way m3 (lvalue b (type_of a)) line p v None j t t done done
+          writing-way m3 (lvalue b (type_of a)) line p v None j t t node_value node_value
           (type_of a, refl, h.10, subst IsValueType h.7 valued, h.7, order.keeps (PointerTo (type_of a)) p (order.on g (order.on i (order.on n (order.on n2 n3)))) (place-value a h.3 z p q), subst (λ u. Value b m3 u v) (int-type t h.0 h.6) s4) (λ j v y g r. done-holds order y t j v r)))))))
       form-typed t line (PointerAssign o a d) h fs w =
           let valued : IsValueType t = subst IsValueType (sym h.6) tt in
-          operand-way w (given_type a) t (opened fs) (ev b call a) (plainly.ev b call' a) _ _ (λ fs. ev-typed a h.1 fs w) (λ j p z f q.
+          operand-way w (given_type a) t (open_against fs) (ev b call a) (plainly.ev b call' a) _ _ (λ fs. ev-typed a h.1 fs w) (λ j p z f q.
           reading-way z (lvalue b (type_of a)) line p j t t _ _ (type_of a, refl, h.9, subst IsValueType h.7 valued, h.7, place-value a h.2 z p q) (λ j v y g r.
           operand-way y (given_type d) t j (ev b call d) (plainly.ev b call' d) _ _ (λ fs. ev-typed d h.3 fs y) (λ j x c i s.
           doing-way c line (op.Moves (is_minus o) true (element_size b t) v x) t t _ _
           (t, type_of d, h.0, order.keeps t v i r, own-value d (type_of d) h.4 c x s, subst (λ u. element_size b u ≤ 2 ^ 32) (sym h.6) h.8.small, h.6) (λ v m n s2.
-          writing-way m (lvalue b (type_of a)) line p v None j t t done done
+          writing-way m (lvalue b (type_of a)) line p v None j t t node_value node_value
           (type_of a, refl, h.9, subst IsValueType h.7 valued, h.7, order.keeps (PointerTo (type_of a)) p (order.on g (order.on i n)) (place-value a h.2 z p q), s2) (λ j v y g r. done-holds order y t j v r)))))
       form-typed t line (Increment o a) h fs w =
-          operand-way w (given_type a) t (opened fs) (ev b call a) (plainly.ev b call' a) _ _ (λ fs. ev-typed a h.0 fs w) (λ j p z f q.
+          operand-way w (given_type a) t (open_against fs) (ev b call a) (plainly.ev b call' a) _ _ (λ fs. ev-typed a h.0 fs w) (λ j p z f q.
           reading-way z (lvalue b (type_of a)) line p j t t _ _ (type_of a, refl, h.4, subst IsValueType h.2 (step-valued t h.3), h.2, place-value a h.1 z p q) (λ j v y g r.
           seq order (Is t) (Gave order t) y (stepping b line t o v) (plain.stepping b line t o v) _ _ (stepping-way y line t o v h.3 r) (λ x m n s.
           writing-way m (lvalue b (type_of a)) line p x None j t t _ _
@@ -534,15 +534,15 @@ module _ (b : Setting) (os : List ℕ)
       -- 6.5.2.2p10: the arguments that are left, and the call
       call-typed : (t : Ty) (line f : ℕ) (us : Tys) (got : List Worth) (xs : Arguments) → ArePassed b.unit os us false xs → (j : Open) (w : World) → ((z : World) → To w z → (rest : List Worth) → AreValues b z us rest → Holds order (Is t) z (call f (got ++ rest) line) (call' f (got ++ rest) line)) → Typed t w (ev_call b call line f got xs j) (plainly.ev_call b call' line f got xs j)
       call-typed t line f NoTys got NoArguments h j w k =
-          seq order (Is t) (Gave order t) w (call f got line) (call' f got line) (done (sequence_point j)) (done (sequence_point j))
+          seq order (Is t) (Gave order t) w (call f got line) (call' f got line) (node_value (sequence_point j)) (node_value (sequence_point j))
           (subst (λ vs. Holds order (Is t) w (call f vs line) (call' f vs line)) (append-nil got) (k w order.here [] tt)) (λ v z g q. done-holds order z t (sequence_point j) v q)
       call-typed t line f (MoreTys u us) got NoArguments h j w k = absurd h
       call-typed t line f NoTys got (MoreArguments x xs) h j w k = absurd h
       call-typed t line f (MoreTys u us) got (MoreArguments x xs) h j w k =
           operand-way w (given_type x) t j (ev b call x) (plainly.ev b call' x) _ _ (λ fs. ev-typed x h.0 fs w) (λ j v z g q.
-          seq order (λ v w. Value b w (bare u) v × IsThere v) (Gave order t) z (handed b x v) (plain.handed b x v) _ _ (handed-way x (bare u) z v h.0 h.1 q) (λ v y i p.
+          seq order (λ v w. Value b w (bare_type u) v × IsThere v) (Gave order t) z (accepted_value b x v) (plain.accepted_value b x v) _ _ (handed-way x (bare_type u) z v h.0 h.1 q) (λ v y i p.
           call-typed t line f us (got ++ v ∷ []) xs h.3 j y (λ m n rest r.
-          subst (λ vs. Holds order (Is t) m (call f vs line) (call' f vs line)) (sym (append_assoc got (v ∷ []) rest)) (k m (order.on g (order.on i n)) (v ∷ rest) (order.keeps (bare u) v n p.0, p.1, r)))))
+          subst (λ vs. Holds order (Is t) m (call f vs line) (call' f vs line)) (sym (append_assoc got (v ∷ []) rest)) (k m (order.on g (order.on i n)) (v ∷ rest) (order.keeps (bare_type u) v n p.0, p.1, r)))))
 
       -- 6.5.2.2p1, p10: the same of a call by a value: behind the arguments its function is found
       through-typed : (t : Ty) (line : ℕ) (r : Ty) (p : Worth) (us : Tys) (variadic : Bool) (got : List Worth) (xs : Arguments) → ArePassed b.unit os us variadic xs → (j : Open) (w : World) → Value b w (PointerTo r) p
@@ -550,20 +550,20 @@ module _ (b : Setting) (os : List ℕ)
           → Typed t w (ev_through b call line r p got xs j) (plainly.ev_through b call' line r p got xs j)
       through-typed t line r p NoTys variadic got NoArguments h j w v k =
           seq order (λ f z. MayBeCalled b r f z) (Gave order t) w (act b line (op.Finds r p)) (act_plainly b line (op.Finds r p)) _ _ (acting.finds-way b os line r r p w v) (λ f z g q.
-          seq order (Is t) (Gave order t) z (call (function_in f) got line) (call' (function_in f) got line) (done (sequence_point j)) (done (sequence_point j))
+          seq order (Is t) (Gave order t) z (call (function_in f) got line) (call' (function_in f) got line) (node_value (sequence_point j)) (node_value (sequence_point j))
           (subst (λ vs. Holds order (Is t) z (call (function_in f) vs line) (call' (function_in f) vs line)) (append-nil got) (k z g [] (λ e. tt) f q)) (λ x y i m. done-holds order y t (sequence_point j) x m))
       through-typed t line r p (MoreTys u us) variadic got NoArguments h j w v k = absurd h
       through-typed t line r p NoTys false got (MoreArguments x xs) h j w v k = absurd h
       through-typed t line r p NoTys true got (MoreArguments x xs) h j w v k =
           operand-way w (given_type x) t j (ev b call x) (plainly.ev b call' x) _ _ (λ fs. ev-typed x h.0 fs w) (λ j y z g q.
-          seq order (λ v w. Value b w (type_of x) v × IsThere v) (Gave order t) z (handed b x y) (plain.handed b x y) _ _ (handed-way x (type_of x) z y h.0 h.1 q) (λ y m i n.
+          seq order (λ v w. Value b w (type_of x) v × IsThere v) (Gave order t) z (accepted_value b x y) (plain.accepted_value b x y) _ _ (handed-way x (type_of x) z y h.0 h.1 q) (λ y m i n.
           through-typed t line r p NoTys true (got ++ y ∷ []) xs h.3 j m (order.keeps (PointerTo r) p (order.on g i) v) (λ a c rest d f e.
           subst (λ vs. Holds order (Is t) a (call (function_in f) vs line) (call' (function_in f) vs line)) (sym (append_assoc got (y ∷ []) rest)) (k a (order.on g (order.on i c)) (y ∷ rest) (λ s. absurd cc) f e))))
       through-typed t line r p (MoreTys u us) variadic got (MoreArguments x xs) h j w v k =
           operand-way w (given_type x) t j (ev b call x) (plainly.ev b call' x) _ _ (λ fs. ev-typed x h.0 fs w) (λ j y z g q.
-          seq order (λ v w. Value b w (bare u) v × IsThere v) (Gave order t) z (handed b x y) (plain.handed b x y) _ _ (handed-way x (bare u) z y h.0 h.1 q) (λ y m i n.
+          seq order (λ v w. Value b w (bare_type u) v × IsThere v) (Gave order t) z (accepted_value b x y) (plain.accepted_value b x y) _ _ (handed-way x (bare_type u) z y h.0 h.1 q) (λ y m i n.
           through-typed t line r p us variadic (got ++ y ∷ []) xs h.3 j m (order.keeps (PointerTo r) p (order.on g i) v) (λ a c rest d f e.
-          subst (λ vs. Holds order (Is t) a (call (function_in f) vs line) (call' (function_in f) vs line)) (sym (append_assoc got (y ∷ []) rest)) (k a (order.on g (order.on i c)) (y ∷ rest) (λ s. (order.keeps (bare u) y c n.0, n.1, d s)) f e))))
+          subst (λ vs. Holds order (Is t) a (call (function_in f) vs line) (call' (function_in f) vs line)) (sym (append_assoc got (y ∷ []) rest)) (k a (order.on g (order.on i c)) (y ∷ rest) (λ s. (order.keeps (bare_type u) y c n.0, n.1, d s)) f e))))
 
       -- 7.1.4p1: the same of a function of the library
       ask-typed : (t : Ty) (line : ℕ) (f : Library) (us : Tys) (variadic : Bool) (got : List Arg) (xs : Arguments) → IsResultOf f t → ArePassed b.unit os us variadic xs → (j : Open) (w : World) → Each (λ (x : Arg). IsArgument w.memory.table x.value) got → Typed t w (ev_ask b call line f got xs j) (plainly.ev_ask b call' line f got xs j)
@@ -572,9 +572,9 @@ module _ (b : Setting) (os : List ℕ)
       ask-typed t line f NoTys false got (MoreArguments x xs) r h j w k = absurd h
       ask-typed t line f NoTys true got (MoreArguments x xs) r h j w k =
           operand-way w (given_type x) t j (ev b call x) (plainly.ev b call' x) _ _ (λ fs. ev-typed x h.0 fs w) (λ j v z g q.
-          seq order (λ v w. Value b w (type_of x) v × IsThere v) (Gave order t) z (handed b x v) (plain.handed b x v) _ _ (handed-way x (type_of x) z v h.0 h.1 q) (λ v y i p.
+          seq order (λ v w. Value b w (type_of x) v × IsThere v) (Gave order t) z (accepted_value b x v) (plain.accepted_value b x v) _ _ (handed-way x (type_of x) z v h.0 h.1 q) (λ v y i p.
           ask-typed t line f NoTys true (got ++ argument x v ∷ []) xs r h.3 j y (more-fair w z y got x (type_of x) v g i k p.0)))
       ask-typed t line f (MoreTys u us) variadic got (MoreArguments x xs) r h j w k =
           operand-way w (given_type x) t j (ev b call x) (plainly.ev b call' x) _ _ (λ fs. ev-typed x h.0 fs w) (λ j v z g q.
-          seq order (λ v w. Value b w (bare u) v × IsThere v) (Gave order t) z (handed b x v) (plain.handed b x v) _ _ (handed-way x (bare u) z v h.0 h.1 q) (λ v y i p.
-          ask-typed t line f us variadic (got ++ argument x v ∷ []) xs r h.3 j y (more-fair w z y got x (bare u) v g i k p.0)))
+          seq order (λ v w. Value b w (bare_type u) v × IsThere v) (Gave order t) z (accepted_value b x v) (plain.accepted_value b x v) _ _ (handed-way x (bare_type u) z v h.0 h.1 q) (λ v y i p.
+          ask-typed t line f us variadic (got ++ argument x v ∷ []) xs r h.3 j y (more-fair w z y got x (bare_type u) v g i k p.0)))

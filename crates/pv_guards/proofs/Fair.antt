@@ -13,8 +13,8 @@ use Rattle.pv_prov.specs.Names.{is_empty, same_name}
 use Rattle.pv_inst.specs.Table.{Table, IsMadeIn}
 use Rattle.pv_inst.proofs.Apartness.{same_or_not}
 use Rattle.pv_shadow.specs.declared.byte.Byte.{Byte}
-use Rattle.pv_shadow.specs.Bytes.{Store, blank, read, written, spread, cleared}
-use Rattle.pv_shadow.specs.Whole.{little_endian, number_of, plain, pointed, values_of, has_index, is_whole, whole_name, mark_at, number_in}
+use Rattle.pv_shadow.specs.Bytes.{Store, blank_byte, bytes_from, with_bytes_at, with_blanks, without_bytes}
+use Rattle.pv_shadow.specs.Whole.{little_endian, number_of, number_bytes, pointer_bytes, values_of, has_index, is_whole, whole_name, mark_at, number_in}
 use Rattle.pv_shadow.proofs.Ranges.{get-insert_other, get-insert_here, get-remove_other, get-remove_here}
 use Rattle.pv_object.specs.declared.values.Scalar.{Scalar}
 use Rattle.pv_object.specs.declared.values.Scalar.TheVariants as scalar
@@ -56,17 +56,17 @@ nameless-fair T x v e l n = record {
   high = λ i w p j f k. let q : true ≡ false = sym (ap is_empty n) ∙ p in absurd (cc);
 }
 
-pub blank-fair : (T : Table) → IsFair T blank
-blank-fair T = unset-fair T blank refl tt
+pub blank-fair : (T : Table) → IsFair T blank_byte
+blank-fair T = unset-fair T blank_byte refl tt
 
 module _ (T : Table) where
   -- what is read, and parts of it
-  byte-read : (o : Option Byte) → ((x : Byte) → o ≡ Some x → IsFair T x) → IsFair T (unwrap_or o blank)
+  byte-read : (o : Option Byte) → ((x : Byte) → o ≡ Some x → IsFair T x) → IsFair T (unwrap_or o blank_byte)
   byte-read None h = blank-fair T
   byte-read (Some x) h = h x refl
 
-  pub read-fair : (m : Store) (a n : ℕ) → AreFair T m → Each (IsFair T) (read m a n)
-  unfolding read
+  pub read-fair : (m : Store) (a n : ℕ) → AreFair T m → Each (IsFair T) (bytes_from m a n)
+  unfolding bytes_from
   read-fair m a zero h = tt
   read-fair m a (suc n) h = (byte-read (get m a) (h a), read-fair m (a + 1) n h)
 
@@ -95,20 +95,20 @@ module _ (T : Table) where
       by (inl s) = absurd (none-some x (sym (get-remove_here m k a s) ∙ e))
       by (inr n) = h a x (sym (get-remove_other m k a n) ∙ e)
 
-  pub written-fair : (m : Store) (a : ℕ) (bs : List Byte) → AreFair T m → Each (IsFair T) bs → AreFair T (written m a bs)
+  pub written-fair : (m : Store) (a : ℕ) (bs : List Byte) → AreFair T m → Each (IsFair T) bs → AreFair T (with_bytes_at m a bs)
   written-fair m a [] h f = h
   written-fair m a (b ∷ bs) h f = written-fair (insert m a b) (a + 1) bs (insert-fair m a b h f.0) f.1
 
-  pub spread-fair : (m : Store) (a n : ℕ) → AreFair T m → AreFair T (spread m a n)
+  pub spread-fair : (m : Store) (a n : ℕ) → AreFair T m → AreFair T (with_blanks m a n)
   spread-fair m a zero h = h
-  spread-fair m a (suc n) h = spread-fair (insert m a blank) (a + 1) n (insert-fair m a blank h (blank-fair T))
+  spread-fair m a (suc n) h = spread-fair (insert m a blank_byte) (a + 1) n (insert-fair m a blank_byte h (blank-fair T))
 
-  pub cleared-fair : (m : Store) (a n : ℕ) → AreFair T m → AreFair T (cleared m a n)
+  pub cleared-fair : (m : Store) (a n : ℕ) → AreFair T m → AreFair T (without_bytes m a n)
   cleared-fair m a zero h = h
   cleared-fair m a (suc n) h = cleared-fair (remove m a) (a + 1) n (remove-fair m a h)
 
   -- the bytes of a number
-  pub plain-fair : (mark : Option ℕ) (j : ℕ) (vs : List ℕ) → Each (λ (v : ℕ). v < 256) vs → Each (IsFair T) (plain mark j vs)
+  pub plain-fair : (mark : Option ℕ) (j : ℕ) (vs : List ℕ) → Each (λ (v : ℕ). v < 256) vs → Each (IsFair T) (number_bytes mark j vs)
   plain-fair mark j [] h = tt
   plain-fair mark j (v ∷ vs) h = (nameless-fair T _ v refl h.0 refl, plain-fair mark (j + 1) vs h.1)
 
@@ -136,7 +136,7 @@ module _ (T : Table) where
   eighth : (a : ℕ) → a < 2 ^ 48 → a / 256 / 256 / 256 / 256 / 256 / 256 / 256 % 256 ≡ 0
   eighth a h = omega (arith, h)
 
-  pub pointed-fair : (mark : Option ℕ) (p : Prov) (a : ℕ) → IsMadeIn T p → (is_empty p ≡ false → a < 2 ^ 48) → Each (IsFair T) (pointed mark p 0 (little_endian 8 a))
+  pub pointed-fair : (mark : Option ℕ) (p : Prov) (a : ℕ) → IsMadeIn T p → (is_empty p ≡ false → a < 2 ^ 48) → Each (IsFair T) (pointer_bytes mark p 0 (little_endian 8 a))
   pointed-fair mark p a n l =
       let byte : (j v : ℕ) → v < 256 → (is_empty p ≡ false → 6 ≤ j → v ≡ 0) → IsFair T (record { value = Some v; prov = p; index = Some j; mark = mark_at mark j }) = λ j v l z. pointer-byte p j v (mark_at mark j) n l z in
       (byte 0 (a % 256) (below-256 _) (no-high p 0 _ (omega arith)), (byte 1 (a / 256 % 256) (below-256 _) (no-high p 1 _ (omega arith)), (byte 2 (a / 256 / 256 % 256) (below-256 _) (no-high p 2 _ (omega arith)), (byte 3 (a / 256 / 256 / 256 % 256) (below-256 _) (no-high p 3 _ (omega arith)), (byte 4 (a / 256 / 256 / 256 / 256 % 256) (below-256 _) (no-high p 4 _ (omega arith)), (byte 5 (a / 256 / 256 / 256 / 256 / 256 % 256) (below-256 _) (no-high p 5 _ (omega arith)), (byte 6 (a / 256 / 256 / 256 / 256 / 256 / 256 % 256) (below-256 _) (λ q k. seventh a (l q)), (byte 7 (a / 256 / 256 / 256 / 256 / 256 / 256 / 256 % 256) (below-256 _) (λ q k. eighth a (l q)), tt))))))))

@@ -6,14 +6,14 @@ use Rattle.std.proofs.lemmas.Bool.Decides.{nat_tests}
 use Rattle.pv_prov.specs.declared.names.Prov.{Prov}
 use Rattle.pv_prov.specs.declared.names.Prov.TheVariants.{Empty, Inst, Pair}
 use Rattle.pv_prov.specs.declared.names.Stands.{Stands}
-use Rattle.pv_prov.specs.Names.{is_empty, nobody, alone, stands}
+use Rattle.pv_prov.specs.Names.{is_empty, nobody, one_candidate, stands}
 use Rattle.pv_inst.specs.declared.values.Instance.{Instance}
 use Rattle.pv_inst.specs.declared.values.Kind.TheVariants.{Heap}
 use Rattle.pv_inst.specs.declared.values.Test.TheVariants.{Range}
 use Rattle.pv_inst.specs.declared.values.Tried.{Tried}
 use Rattle.pv_inst.specs.declared.values.Miss.{Miss}
 use Rattle.pv_inst.specs.Table.{Table, instance_at, IsNumber, IsMadeIn}
-use Rattle.pv_inst.specs.Use.{passes, survives, any_survives, judged, if_two, use_answer, holds}
+use Rattle.pv_inst.specs.Use.{passes, survives, any_survives, test_answer, if_two, use_answer, holds}
 use Rattle.pv_inst.specs.SameParts.{made_passes}
 use Rattle.pv_inst.specs.Finding.{reaches, begins, number_of, both_found, name_by, table_by, name_at, after_name, fitting}
 use Rattle.pv_inst.proofs.Rows.{IsRow}
@@ -91,7 +91,7 @@ module _ (T : Table) (within : (i : ℕ) (x : Instance) → instance_at T.instan
       by true e k = survives-low zap s.low a n e
       by false e k = survives-low zap s.high a n k
 
-  judged-low : (zap : Bool) (s : Stands) (pair : Option ℕ) (a n : ℕ) (tried : Tried) → judged zap T.instances s pair (Range a n) ≡ Ok tried → a < 2 ^ 48
+  judged-low : (zap : Bool) (s : Stands) (pair : Option ℕ) (a n : ℕ) (tried : Tried) → test_answer zap T.instances s pair (Range a n) ≡ Ok tried → a < 2 ^ 48
   judged-low zap s pair a n tried h = by (any_survives zap T.instances s (Range a n)) _ _ refl h
     where
       by : (c : Bool) (x : Tried) (m : Miss) → any_survives zap T.instances s (Range a n) ≡ c → cond c (Ok x) (Err m) ≡ Ok tried → a < 2 ^ 48
@@ -100,5 +100,5 @@ module _ (T : Table) (within : (i : ℕ) (x : Instance) → instance_at T.instan
 
   pub range-low : (p : Prov) (a n : ℕ) (tried : Tried) → use_answer T p (Range a n) ≡ Ok tried → a < 2 ^ 48
   range-low Empty a n tried h = absurd cc
-  range-low (Inst i) a n tried h = judged-low T.zap (alone i) None a n tried h
+  range-low (Inst i) a n tried h = judged-low T.zap (one_candidate i) None a n tried h
   range-low (Pair k) a n tried h = judged-low T.zap (stands T.pairs (Pair k)) (if_two k (stands T.pairs (Pair k))) a n tried h

@@ -11,12 +11,12 @@ use Rattle.pv_libc.specs.declared.values.Arg.{Arg}
 use Rattle.pv_inst.specs.declared.values.Tried.{Tried}
 use Rattle.pv_types.specs.Ty.{Ty, VoidTy, IntTy, PointerTo, ArrayOf, StructTag, UnionTag, FunctionTy, ConstOf}
 use Rattle.pv_types.specs.Layouts.{layout_in}
-use Rattle.pv_types.specs.Sorts.{bare}
+use Rattle.pv_types.specs.Sorts.{bare_type}
 use Rattle.pv_inst.specs.declared.values.Instance.{Instance}
 use Rattle.pv_inst.specs.Infos.{base_of}
 use Rattle.pv_inst.specs.Table.{Table, instance_at, IsNumber}
 use Rattle.pv_shadow.specs.declared.byte.Byte.{Byte}
-use Rattle.pv_shadow.specs.Bytes.{read}
+use Rattle.pv_shadow.specs.Bytes.{bytes_from}
 use Rattle.pv_shadow.proofs.Ranges.{length-read}
 use Rattle.pv_object.specs.declared.values.Asker.TheVariants.{Access as ByAccess}
 use Rattle.pv_object.specs.declared.values.Pointer.{Pointer}
@@ -33,12 +33,12 @@ use Rattle.pv_watch.specs.declared.event.What.{What}
 use Rattle.pv_world.specs.declared.got.Shape.{Shape}
 use Rattle.pv_world.specs.declared.got.Shape.TheVariants as shape
 use Rattle.pv_world.specs.Worlds.{Worth, Nothing, Missing, Scalar, Whole, World, with_table}
-use Rattle.pv_world.specs.Worths.{int, truth_int, pointer, pointer_of, value_of, bytes_of, unplain, unpresent}
+use Rattle.pv_world.specs.Worths.{int, truth_int, pointer, pointer_of, value_of, bytes_of, why_not_set, why_missing}
 use Rattle.pv_world.specs.Conversions.{opposite}
 use Rattle.pv_world.specs.CalculationParts.{accepts}
 use Rattle.pv_world.specs.Pointers.{found_by, finds}
 use Rattle.pv_world.specs.PointerParts.{unlike}
-use Rattle.pv_world.specs.Telling.{Told, quiet, telling, used, code_test}
+use Rattle.pv_world.specs.Telling.{Told, no_telling, telling, event_of_use, code_test}
 use Rattle.pv_world.specs.Doing.{Done, Answers, Fails, Breaks}
 use Rattle.pv_world.specs.Objects.{bound_in, instance_of, literal_of, function_of, base_in, address_of, owner_of}
 use Rattle.pv_world.specs.Accesses.{reaching_by, mark_of, stored_as, is_inexact}
@@ -63,7 +63,7 @@ use Rattle.pv_guards.specs.Worths.{IsScalar, IsWhole, IsOfType, IsThere}
 use Rattle.pv_guards.specs.Typed.{IsTag, IsValueType, HasBody, IsInScope}
 use Rattle.pv_guards.specs.Fair.{IsFair, AreFair, IsFairValue, IsArgument}
 use Rattle.pv_guards.specs.Soundness.{Value, IsFairWorth, IsHome, IsCode, IsSound, AllLiveStill, IsAfter}
-use Rattle.pv_guards.specs.Plain.{plainly}
+use Rattle.pv_guards.specs.Plain.{plain_doing}
 use Rattle.pv_guards.specs.Promises.{Promised}
 use Rattle.pv_guards.proofs.Fair.{Keeps, bytes-later, store-later, read-fair, take-fair, drop-fair, written-fair, encode-fair}
 use Rattle.pv_guards.proofs.Living.{all-same, all-on, home-number, home-later, code-earlier, longer-live, reach-live, code-live}
@@ -217,26 +217,26 @@ module _ (b : Setting) (os : List ℕ) (w : World) (sound : IsSound b os w) wher
   reached : (p : Pointer) (n align : ℕ) (write : Bool) → Led ⊥ T (reach T p n align write ByAccess).1
   reached p n align write = reach-leads (led-changes b) w.memory p n align write ByAccess
 
-  reads-gives : (u : Ty) (place : Worth) (rivals : List Access) → IsValueType (bare u) → Answering (TabledIn b w (bare u)) (reads b (lvalue b u) place rivals w)
+  reads-gives : (u : Ty) (place : Worth) (rivals : List Access) → IsValueType (bare_type u) → Answering (TabledIn b w (bare_type u)) (reads b (lvalue b u) place rivals w)
   reads-gives u place rivals valued =
       let p = pointer_of place in
       let l = lvalue b u in
-      reaching-gives (TabledIn b w (bare u)) p (range_use T p l.size) (reach T p l.size l.align false ByAccess) (reads_at b l p rivals) (reached p l.size l.align false) (reach-live T p l.size l.align false ByAccess) (λ at U led lives.
+      reaching-gives (TabledIn b w (bare_type u)) p (range_use T p l.size) (reach T p l.size l.align false ByAccess) (reads_at b l p rivals) (reached p l.size l.align false) (reach-live T p l.size l.align false ByAccess) (λ at U led lives.
       let z = with_table w U in
       let s = sound-table z led lives refl in
-      answers-if (TabledIn b w (bare u)) (permits b z l at false) _ _
-      (answers-if (TabledIn b w (bare u)) (conflicts (access_to l p false) rivals) _ _ tt
-      (answers-more (TabledIn b z (bare u)) (TabledIn b w (bare u)) (further U lives) _ (worth-gives b z (λ i x e. (s.laid.within i x e).upto) u (read z.memory.bytes at.address l.size) (Some at.address) (Some p.prov) (telling (range_use T p l.size)) valued (length-read z.memory.bytes at.address l.size) (read-fair U z.memory.bytes at.address l.size s.bytes)))) tt)
+      answers-if (TabledIn b w (bare_type u)) (permits b z l at false) _ _
+      (answers-if (TabledIn b w (bare_type u)) (conflicts (access_to l p false) rivals) _ _ tt
+      (answers-more (TabledIn b z (bare_type u)) (TabledIn b w (bare_type u)) (further U lives) _ (worth-gives b z (λ i x e. (s.laid.within i x e).upto) u (bytes_from z.memory.bytes at.address l.size) (Some at.address) (Some p.prov) (telling (range_use T p l.size)) valued (length-read z.memory.bytes at.address l.size) (read-fair U z.memory.bytes at.address l.size s.bytes)))) tt)
     where
-      further : (U : Table) → AllLiveStill T U → (v : Worth) (z : World) → TabledIn b (with_table w U) (bare u) v z → TabledIn b w (bare u) v z
+      further : (U : Table) → AllLiveStill T U → (v : Worth) (z : World) → TabledIn b (with_table w U) (bare_type u) v z → TabledIn b w (bare_type u) v z
       further U l v z h = (h.0, all-on T U z.memory.table l h.1, h.2)
 
-  writes-gives : (u : Ty) (place v : Worth) (from : Option ℕ) (rivals : List Access) → Value b w (bare u) v → Answering (Keeping (λ v z. Value b z (bare u) v)) (writes b (lvalue b u) place v from rivals w)
+  writes-gives : (u : Ty) (place v : Worth) (from : Option ℕ) (rivals : List Access) → Value b w (bare_type u) v → Answering (Keeping (λ v z. Value b z (bare_type u) v)) (writes b (lvalue b u) place v from rivals w)
   writes-gives u place v from rivals h =
       let p = pointer_of place in
       let l = lvalue b u in
-      let Q : Worth → World → Type 0 = Keeping (λ v z. Value b z (bare u) v) in
-      unless-answers Q (unpresent v) w _
+      let Q : Worth → World → Type 0 = Keeping (λ v z. Value b z (bare_type u) v) in
+      unless-answers Q (why_missing v) w _
       (reaching-gives Q p (range_use T p l.size) (reach T p l.size l.align true ByAccess) (writes_at b l p v from rivals) (reached p l.size l.align true) (reach-live T p l.size l.align true ByAccess) (λ at U led lives.
       let z = with_table w U in
       let s = sound-table z led lives refl in
@@ -257,7 +257,7 @@ module _ (b : Setting) (os : List ℕ) (w : World) (sound : IsSound b os w) wher
   part-length (suc o) n [] h = absurd (omega (arith, h))
   part-length (suc o) n (x ∷ bs) h = part-length o n bs (omega (arith, h))
 
-  bare-valued : (t : Ty) → IsValueType t → (bare t ≡ t) × IsValueType (bare t)
+  bare-valued : (t : Ty) → IsValueType t → (bare_type t ≡ t) × IsValueType (bare_type t)
   bare-valued (IntTy k) h = (refl, tt)
   bare-valued (PointerTo s) h = (refl, tt)
   bare-valued (StructTag n) h = (refl, tt)
@@ -278,7 +278,7 @@ module _ (b : Setting) (os : List ℕ) (w : World) (sound : IsSound b os w) wher
       by (Whole bs a) e f =
           let r = bare-valued t valued in
           subst (λ x. Answering (TabledIn b w x) (takes_part offset (lvalue b t) (Whole bs a) w)) r.0
-          (worth-gives b w within t (take (size_of b t) (drop offset bs)) None None quiet r.1 (part-length offset (size_of b t) bs (subst (λ n. offset + size_of b t ≤ n) e le)) (take-fair T (size_of b t) (drop offset bs) (drop-fair T offset bs f)))
+          (worth-gives b w within t (take (size_of b t) (drop offset bs)) None None no_telling r.1 (part-length offset (size_of b t) bs (subst (λ n. offset + size_of b t ≤ n) e le)) (take-fair T (size_of b t) (drop offset bs) (drop-fair T offset bs f)))
       by Missing e f = tt
       by (Scalar x) e f = absurd e
       by Nothing e f = absurd e
@@ -308,23 +308,23 @@ module _ (b : Setting) (os : List ℕ) (w : World) (sound : IsSound b os w) wher
   abbrev Val : Ty → Worth → World → Type 0
   Val t v z = Value b z t v
 
-  onward : (o : Op) (t : Ty) → Promised b os w o t → Onward (OfTables (Led ⊥)) w (plainly b o w)
+  onward : (o : Op) (t : Ty) → Promised b os w o t → Onward (OfTables (Led ⊥)) w (plain_doing b o w)
   onward o t h = subst (λ d. Onward (OfTables (Led ⊥)) w d) (promised b os w o t h) (does-on b (led-changes b) o (asked b os w o t h) w)
 
-  leaves : (o : Op) (t u : Ty) → Promised b os w o t → t ≡ u → Answering (TabledIn b w u) (plainly b o w) → Answering (Leaving (Val t)) (plainly b o w)
-  leaves o t u h e g = leaves-tabled (Val t) (plainly b o w) (onward o t h) (subst (λ x. Answering (TabledIn b w x) (plainly b o w)) (sym e) g)
+  leaves : (o : Op) (t u : Ty) → Promised b os w o t → t ≡ u → Answering (TabledIn b w u) (plain_doing b o w) → Answering (Leaving (Val t)) (plain_doing b o w)
+  leaves o t u h e g = leaves-tabled (Val t) (plain_doing b o w) (onward o t h) (subst (λ x. Answering (TabledIn b w x) (plain_doing b o w)) (sym e) g)
 
-  pub answers : (o : Op) (t : Ty) → Promised b os w o t → ((f : Library) (args : List Arg) → Promised b os w (op.Asks f args) t → Answering (Keeping (Val t)) (asks f args w)) → Answering (Leaving (Val t)) (plainly b o w)
+  pub answers : (o : Op) (t : Ty) → Promised b os w o t → ((f : Library) (args : List Arg) → Promised b os w (op.Asks f args) t → Answering (Keeping (Val t)) (asks f args w)) → Answering (Leaving (Val t)) (plain_doing b o w)
   answers (op.Converts how v) t h a = leaves (op.Converts how v) t t h refl (converts-gives b w within how h.0 t v h.2 h.1)
   answers (op.Calculates o k v x) t h a =
       leaves (op.Calculates o k v x) t (IntTy (yielded_kind o k)) h h.7
-      (answers-more _ _ (kind-tabled (yielded_kind o k)) (plainly b (op.Calculates o k v x) w) (calculates-gives o h.0 k v x w h.2 h.3 h.5.0))
+      (answers-more _ _ (kind-tabled (yielded_kind o k)) (plain_doing b (op.Calculates o k v x) w) (calculates-gives o h.0 k v x w h.2 h.3 h.5.0))
   answers (op.CalculatesOne o k v) t h a =
-      leaves (op.CalculatesOne o k v) t (IntTy k) h h.2 (answers-more _ _ (kind-tabled k) (plainly b (op.CalculatesOne o k v) w) (one-gives o k v w h.0 h.1.0))
+      leaves (op.CalculatesOne o k v) t (IntTy k) h h.2 (answers-more _ _ (kind-tabled k) (plain_doing b (op.CalculatesOne o k v) w) (one-gives o k v w h.0 h.1.0))
   answers (op.Tests v) t h a = leaves (op.Tests v) t (IntTy Int) h h.2 (tests-gives b w within (IntTy Int) truth_int v (truth-value b w within Int))
   answers (op.Negates v) t h a = leaves (op.Negates v) t (IntTy Int) h h.2 (tests-gives b w within (IntTy Int) opposite v (opposite-value b w within Int))
-  answers (op.Accepts v) t h a = leaves (op.Accepts v) t t h refl (unless-answers (TabledIn b w t) (unpresent v) w _ (refl, all-same T, h))
-  answers (op.Needs v) t h a = leaves (op.Needs v) t t h refl (unless-answers (TabledIn b w t) (unplain v) w _ (refl, all-same T, h.2))
+  answers (op.Accepts v) t h a = leaves (op.Accepts v) t t h refl (unless-answers (TabledIn b w t) (why_missing v) w _ (refl, all-same T, h))
+  answers (op.Needs v) t h a = leaves (op.Needs v) t t h refl (unless-answers (TabledIn b w t) (why_not_set v) w _ (refl, all-same T, h.2))
   answers (op.Moves minus first size v x) t h a = leaves (op.Moves minus first size v x) t (PointerTo h.2) h h.6 (moves-gives b w within minus first size h.0 h.1 h.2 v x h.3 h.4)
   answers (op.Subtracts size v x) t h a = leaves (op.Subtracts size v x) t (IntTy Long) h h.6 (subtracts-gives b w within size h.0 h.1 v x h.4 h.2 h.3)
   answers (op.Orders o v x) t h a = leaves (op.Orders o v x) t (IntTy Int) h h.5 (orders-gives b w within o v x h.4)
@@ -334,11 +334,11 @@ module _ (b : Setting) (os : List ℕ) (w : World) (sound : IsSound b os w) wher
   answers (op.TakesPart offset l v) t h a =
       leaves (op.TakesPart offset l v) t t h refl (subst (λ x. Answering (TabledIn b w t) (takes_part offset x v w)) (sym h.5) (takes-gives offset h.0 t v h.2 h.4 h.6 h.1))
   answers (op.Reads l place rivals) t h a =
-      leaves (op.Reads l place rivals) t (bare h.0) h h.4 (subst (λ x. Answering (TabledIn b w (bare h.0)) (reads b x place rivals w)) (sym h.1) (reads-gives h.0 place rivals h.3))
+      leaves (op.Reads l place rivals) t (bare_type h.0) h h.4 (subst (λ x. Answering (TabledIn b w (bare_type h.0)) (reads b x place rivals w)) (sym h.1) (reads-gives h.0 place rivals h.3))
   answers (op.Writes l place v from rivals) t h a =
-      leaves-keeping (Val t) (plainly b (op.Writes l place v from rivals) w) (onward (op.Writes l place v from rivals) t h)
+      leaves-keeping (Val t) (plain_doing b (op.Writes l place v from rivals) w) (onward (op.Writes l place v from rivals) t h)
       (subst (λ y. Answering (Keeping (Val y)) (writes b l place v from rivals w)) (sym h.4)
-      (subst (λ x. Answering (Keeping (Val (bare h.0))) (writes b x place v from rivals w)) (sym h.1) (writes-gives h.0 place v from rivals (subst (λ y. Value b w y v) h.4 h.6))))
+      (subst (λ x. Answering (Keeping (Val (bare_type h.0))) (writes b x place v from rivals w)) (sym h.1) (writes-gives h.0 place v from rivals (subst (λ y. Value b w y v) h.4 h.6))))
   answers (op.NamesObject o) t h a = leaves (op.NamesObject o) t t h refl (place-gives (instance_of w o (object_at b.unit o).lasting) t h.0 h.1 (home-number T (instance_for b o w) (size_of b (object_at b.unit o).t) (sound.objects o h.2)))
   answers (op.NamesLiteral l) t h a = leaves (op.NamesLiteral l) t t h refl (place-gives (literal_of w l) t h.0 h.1 (sound.literals l h.2))
   answers (op.NamesFunction f) t h a = leaves (op.NamesFunction f) t t h refl (place-gives (function_of w f) t h.0 h.1 (sound.functions f h.2))
@@ -364,7 +364,7 @@ module _ (b : Setting) (os : List ℕ) (w : World) (sound : IsSound b os w) wher
   present-there t (Scalar v) h = (refl, all-same T, (h, tt))
   present-there t (Whole bs a) h = (refl, all-same T, (h, tt))
 
-  pub accepted : (t : Ty) (v : Worth) → Value b w t v → Answering (Leaving (There t)) (plainly b (op.Accepts v) w)
+  pub accepted : (t : Ty) (v : Worth) → Value b w t v → Answering (Leaving (There t)) (plain_doing b (op.Accepts v) w)
   accepted t v h = leaves-tabled (There t) (accepts v w) (onward (op.Accepts v) t h) (present-there t v h)
 
   found-fits : (t : Ty) (p : Pointer) (U : Table) (o : Option ℕ) (us : List What) (c : Bool) → AllLiveStill T U → may_call b t o ≡ c → ((f : ℕ) → o ≡ Some f → HasBody b.unit f) → Answering (λ v z. (z ≡ with_table w z.memory.table) × AllLiveStill T z.memory.table × MayBeCalled b t v z) (if c then Answers (int (pos (unwrap_or o 0))) (with_table w U) (telling us) else Fails unlike (Some p.prov) (with_table w U) (telling us))
@@ -373,10 +373,10 @@ module _ (b : Setting) (os : List ℕ) (w : World) (sound : IsSound b os w) wher
   found-fits t p U (Some f) us true l e h = (refl, l, (e, h f refl))
 
   found-by : (t : Ty) (p : Pointer) (got : Result (ℕ × Tried) Stop × Table) → AllLiveStill T got.1 → IfOk got.0 (λ (r : ℕ × Tried). IsCode T r.0) → Answering (λ v z. (z ≡ with_table w z.memory.table) × AllLiveStill T z.memory.table × MayBeCalled b t v z) (found_by w p (may_call b t) got)
-  found-by t p (Ok r, U) l c = found-fits t p U (owner_of w r.0) (used code_test r.1) (may_call b t (owner_of w r.0)) l refl (λ f e. sound.code r.0 f c e)
+  found-by t p (Ok r, U) l c = found-fits t p U (owner_of w r.0) (event_of_use code_test r.1) (may_call b t (owner_of w r.0)) l refl (λ f e. sound.code r.0 f c e)
   found-by t p (Err y, U) l c = tt
 
   pub found : (t : Ty) (v : Worth) → Onward (OfTables (Led ⊥)) w (finds (may_call b t) v w) → Answering (Leaving (MayBeCalled b t)) (finds (may_call b t) v w)
   found t v l =
       leaves-tabled (MayBeCalled b t) (finds (may_call b t) v w) l
-      (unless-answers _ (unplain v) w _ (found-by t (pointer_of v) (code w.memory.table (pointer_of v)) (code-live w.memory.table (pointer_of v)) (code-found w.memory.table (pointer_of v))))
+      (unless-answers _ (why_not_set v) w _ (found-by t (pointer_of v) (code w.memory.table (pointer_of v)) (code-live w.memory.table (pointer_of v)) (code-found w.memory.table (pointer_of v))))

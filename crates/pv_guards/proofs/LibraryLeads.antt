@@ -19,10 +19,10 @@ use Rattle.pv_inst.specs.declared.values.Test.TheVariants.{Block}
 use Rattle.pv_inst.specs.Infos.{info_of}
 use Rattle.pv_inst.specs.Table.{Table, instance_at, IsNumber}
 use Rattle.pv_inst.specs.Placing.{Request, place}
-use Rattle.pv_inst.specs.Use.{use_answer, settled}
-use Rattle.pv_inst.specs.Ending.{ended}
+use Rattle.pv_inst.specs.Use.{use_answer, after_use}
+use Rattle.pv_inst.specs.Ending.{after_end}
 use Rattle.pv_shadow.specs.declared.byte.Byte.{Byte}
-use Rattle.pv_shadow.specs.Bytes.{Store, read}
+use Rattle.pv_shadow.specs.Bytes.{Store, bytes_from}
 use Rattle.pv_object.specs.declared.values.Asker.TheVariants.{Text}
 use Rattle.pv_object.specs.declared.values.Pointer.{Pointer}
 use Rattle.pv_object.specs.declared.values.Stop.{Stop}
@@ -30,23 +30,23 @@ use Rattle.pv_object.specs.declared.values.Value.{Value}
 use Rattle.pv_object.specs.declared.values.Value.TheVariants as value
 use Rattle.pv_object.specs.Memory.{Mem, with_table}
 use Rattle.pv_object.specs.Access.{is_null}
-use Rattle.pv_object.specs.Creating.{made}
+use Rattle.pv_object.specs.Creating.{with_new_bytes}
 use Rattle.pv_object.specs.OperationParts.{blank_in, cleared_in}
-use Rattle.pv_object.specs.Copying.{with_bytes, copied}
+use Rattle.pv_object.specs.Copying.{with_bytes, after_copy}
 use Rattle.pv_object.proofs.Born.{born}
 use Rattle.pv_library.specs.declared.library.Library.{Library}
 use Rattle.pv_library.specs.declared.library.Library.TheVariants as library
 use Rattle.pv_libc.specs.declared.values.Arg.{Arg}
 use Rattle.pv_libc.specs.declared.values.Reply.{Reply}
 use Rattle.pv_libc.specs.declared.values.Reply.TheVariants as reply
-use Rattle.pv_libc.specs.Steps.{Now, Did, with_notes, in_memory, halted, next, next_by, about_by, reached}
+use Rattle.pv_libc.specs.Steps.{Now, Did, with_notes, in_memory, stop_now, next, next_by, about_by, reach_for}
 use Rattle.pv_libc.specs.Characters.{character_at, characters_from, most, string_at}
 use Rattle.pv_libc.specs.Blocks.{plain_byte, share, copy, memset, memcmp, difference, sign_of, answers}
 use Rattle.pv_libc.specs.Strings.{strlen, compared_from, strcpy}
 use Rattle.pv_libc.specs.StringParts.{compared_by}
-use Rattle.pv_libc.specs.Heap.{told_of, granted, requested, allocated, malloc, cleared, calloc, block_by, block, freed, free, both, moved, resized, realloc}
-use Rattle.pv_libc.specs.HeapParts.{base_of, heap_request, zeroed}
-use Rattle.pv_libc.specs.Calls.{value_in, pointer_in, pointer, argument_at, number, size, printed, printf, called, output}
+use Rattle.pv_libc.specs.Heap.{told_of, grant_of, request_of_bytes, pointer_or_null, malloc, pointer_to_zeros, calloc, block_by, block, end_of_block, free, after_block_copy, reply_after_move, resize_of, realloc}
+use Rattle.pv_libc.specs.HeapParts.{base_of, heap_request, with_zeros}
+use Rattle.pv_libc.specs.Calls.{value_in, pointer_in, pointer, argument_at, number, size, text_of_format, printf, reply_to_call, output}
 use Rattle.pv_typed.specs.Known.{Each}
 use Rattle.pv_exec.specs.Laying.{IsLaidOut}
 use Rattle.pv_exec.proofs.Memory.Rows.{Leads as Led, led-itself, led-trans}
@@ -58,7 +58,7 @@ use Rattle.pv_exec.proofs.Memory.Allocations.{both-table}
 use Rattle.pv_exec.proofs.Memory.Library.{called-closed}
 use Rattle.pv_exec.proofs.Memory.Calls.{called-leads}
 use Rattle.pv_eval.specs.States.{Setting}
-use Rattle.pv_eval.specs.Library.{replied, with_memory, asked, asks}
+use Rattle.pv_eval.specs.Library.{done_by_reply, with_memory, done_by_call, asks}
 use Rattle.pv_world.specs.Worlds.{Worth, Nothing, Scalar, World}
 use Rattle.pv_world.specs.Telling.{Told}
 use Rattle.pv_typed.specs.TypedUnits.{layouts}
@@ -97,7 +97,7 @@ module _ (b : Setting) where
   cleared-in-fair T None m h = h
   cleared-in-fair T (Some x) m h = cleared-fair T m x.base x.size h
 
-  made-onto : (M : Mem) (w : Result ℕ CreateError × Table) → Led ⊥ M.table w.1 → AllLiveStill M.table w.1 → Onto b M (made M w).1
+  made-onto : (M : Mem) (w : Result ℕ CreateError × Table) → Led ⊥ M.table w.1 → AllLiveStill M.table w.1 → Onto b M (with_new_bytes M w).1
   made-onto M (Ok i, U) l a = record { led = l; live = a; fair = λ h. blank-fair U (instance_at U.instances i) M.bytes (store-later M.table U (made-led M.table U l) M.bytes h) }
   made-onto M (Err e, U) l a = table-onto M U l a
 
@@ -111,12 +111,12 @@ module _ (b : Setting) where
     loads = λ M bytes t. table-onto M _ (value-leads (led-changes b) M bytes t) (value-live M.table bytes t);
     numbers = λ M p k. table-onto M _ (to_int-leads (led-changes b) M p k) (to_int-live M.table p k);
     makes = λ M r some none. made-onto M (place M.table r) (place-leads M.table r (λ x. absurd x)) (place-live M.table r none);
-    ends = λ M i a. record { led = ended-leads M.table i; live = ended-live M.table i a; fair = λ h. cleared-in-fair (ended M.table i) (instance_at M.table.instances i) M.bytes (store-later M.table (ended M.table i) (made-led M.table (ended M.table i) (ended-leads M.table i)) M.bytes h) };
+    ends = λ M i a. record { led = ended-leads M.table i; live = ended-live M.table i a; fair = λ h. cleared-in-fair (after_end M.table i) (instance_at M.table.instances i) M.bytes (store-later M.table (after_end M.table i) (made-led M.table (after_end M.table i) (ended-leads M.table i)) M.bytes h) };
     stores = λ M a bytes l c. record { led = led-itself; live = all-same M.table; fair = λ h. written-fair M.table M.bytes a bytes h (characters-fair M.table bytes c) };
-    copies = λ M to from n l k. record { led = led-itself; live = all-same M.table; fair = λ h. written-fair M.table M.bytes to (read M.bytes from n) h (read-fair M.table M.bytes from n h) };
+    copies = λ M to from n l k. record { led = led-itself; live = all-same M.table; fair = λ h. written-fair M.table M.bytes to (bytes_from M.bytes from n) h (read-fair M.table M.bytes from n h) };
   }
 
-  pub call-fair : (f : Library) (args : List Arg) (M : Mem) → AreFair M.table M.bytes → AreFair (called f args M).after.memory.table (called f args M).after.memory.bytes
+  pub call-fair : (f : Library) (args : List Arg) (M : Mem) → AreFair M.table M.bytes → AreFair (reply_to_call f args M).after.memory.table (reply_to_call f args M).after.memory.bytes
   call-fair f args M h = (called-closed onward f args M).fair h
 
   -- replies
@@ -146,7 +146,7 @@ module _ (b : Setting) where
   leaves-if P true d e h g = h
   leaves-if P false d e h g = g
 
-  leaves-or-stops : {A : Type 0} (P : A → Now → Type 0) (c : Bool) (y : Stop) (V : Now) (e : Did A) → Leaves P e → Leaves P (cond c (halted y V) e)
+  leaves-or-stops : {A : Type 0} (P : A → Now → Type 0) (c : Bool) (y : Stop) (V : Now) (e : Did A) → Leaves P e → Leaves P (cond c (stop_now y V) e)
   leaves-or-stops P true y V e h = tt
   leaves-or-stops P false y V e h = h
 
@@ -166,20 +166,20 @@ module _ (b : Setting) where
       copy-replies apart n S =
           let to = argument_at args 0 M in
           let from = argument_at args 1 M in
-          leaves-next (λ a T. Unit {0}) Replies (reached Text true to n S) _ (any-step (reached Text true to n S)) (λ a V u.
-          leaves-next (λ a T. Unit {0}) Replies (reached Text false from n V) _ (any-step (reached Text false from n V)) (λ f U u. leaves-or-stops Replies (apart && share to.pointer.address from.pointer.address n) _ _ (answers to (in_memory U (copied U.memory a.address f.address n))) (λ env. h.0, inl h.1)))
+          leaves-next (λ a T. Unit {0}) Replies (reach_for Text true to n S) _ (any-step (reach_for Text true to n S)) (λ a V u.
+          leaves-next (λ a T. Unit {0}) Replies (reach_for Text false from n V) _ (any-step (reach_for Text false from n V)) (λ f U u. leaves-or-stops Replies (apart && share to.pointer.address from.pointer.address n) _ _ (answers to (in_memory U (after_copy U.memory a.address f.address n))) (λ env. h.0, inl h.1)))
 
       memset-replies : (c : ℤ) (n : ℕ) (S : Now) → Leaves Replies (memset (argument_at args 0 M) c n S)
       memset-replies c n S =
           let g = argument_at args 0 M in
-          leaves-next (λ a T. Unit {0}) Replies (reached Text true g n S) _ (any-step (reached Text true g n S)) (λ a V u. (λ env. h.0, inl h.1))
+          leaves-next (λ a T. Unit {0}) Replies (reach_for Text true g n S) _ (any-step (reach_for Text true g n S)) (λ a V u. (λ env. h.0, inl h.1))
 
       strcpy-replies : (S : Now) → Leaves Replies (strcpy (argument_at args 0 M) (argument_at args 1 M) S)
       strcpy-replies S =
           let to = argument_at args 0 M in
           let from = argument_at args 1 M in
           leaves-next (λ a T. Unit {0}) Replies (string_at Text from S) _ (any-step (string_at Text from S)) (λ x V u.
-          leaves-next (λ a T. Unit {0}) Replies (reached Text true to (length x + 1) V) _ (any-step (reached Text true to (length x + 1) V)) (λ f U u. leaves-or-stops Replies (share to.pointer.address from.pointer.address (length x + 1)) _ _ (answers to (in_memory U (with_bytes U.memory f.address (map plain_byte (x ++ 0 ∷ []))))) (λ env. h.0, inl h.1)))
+          leaves-next (λ a T. Unit {0}) Replies (reach_for Text true to (length x + 1) V) _ (any-step (reach_for Text true to (length x + 1) V)) (λ f U u. leaves-or-stops Replies (share to.pointer.address from.pointer.address (length x + 1)) _ _ (answers to (in_memory U (with_bytes U.memory f.address (map plain_byte (x ++ 0 ∷ []))))) (λ env. h.0, inl h.1)))
 
     -- allocations
     null-fits : (U : Table) → Fitting (PointerTo s) T U (reply.Value (value.Pointer (record { address = 0; prov = Empty })))
@@ -195,7 +195,7 @@ module _ (b : Setting) where
         number-of U.instances i n.inst n.is
     made-number M r (Err y, U) e i f = absurd cc
 
-    granted-by : (S : Now) (r : Request) (w : Result ℕ CreateError × Table) → place S.memory.table r ≡ w → Led ⊥ S.memory.table w.1 → IsLaidOut S.memory.table → Leaves Granted (granted S (made S.memory w))
+    granted-by : (S : Now) (r : Request) (w : Result ℕ CreateError × Table) → place S.memory.table r ≡ w → Led ⊥ S.memory.table w.1 → IsLaidOut S.memory.table → Leaves Granted (grant_of S (with_new_bytes S.memory w))
     granted-by S r (Ok i, U) e l h = (made-number S.memory r (Ok i, U) e i refl, laid-led S.memory.table U l h)
     granted-by S r (Err error.Denied, U) e l h = null-fits U
     granted-by S r (Err error.NoMemory, U) e l h = tt
@@ -204,7 +204,7 @@ module _ (b : Setting) where
     granted-by S r (Err (error.Misaligned k a), U) e l h = tt
     granted-by S r (Err (error.Overlap k a other), U) e l h = tt
 
-    requested-gives : (n : ℕ) (S : Now) → IsLaidOut S.memory.table → Leaves Granted (requested n S)
+    requested-gives : (n : ℕ) (S : Now) → IsLaidOut S.memory.table → Leaves Granted (request_of_bytes n S)
     requested-gives n S h =
         leaves-if Granted (eqb n 0) _ _ (null-fits S.memory.table)
         (granted-by S (heap_request n) (place S.memory.table (heap_request n)) refl (place-leads S.memory.table (heap_request n) (λ x. absurd x)) h)
@@ -226,38 +226,38 @@ module _ (b : Setting) where
         let l = base-low (instance_at M.table.instances i) x.0 x.1 (h.within i x.0 x.1).upto in
         (omega (arith, l), (n, λ q. l))
 
-    allocated-replies : (r : Result ℕ Reply) (S : Now) → Granted r S → Leaves Replies (allocated r S)
+    allocated-replies : (r : Result ℕ Reply) (S : Now) → Granted r S → Leaves Replies (pointer_or_null r S)
     allocated-replies (Err r) S h = h
     allocated-replies (Ok i) S h = let p = pointer-fits S.memory i h.0 h.1 in (λ env. p.0, inr p.1)
 
     malloc-replies : (n : ℕ) (S : Now) → IsLaidOut S.memory.table → Leaves Replies (malloc n S)
-    malloc-replies n S h = leaves-next Granted Replies (requested n S) allocated (requested-gives n S h) (λ r V g. allocated-replies r V g)
+    malloc-replies n S h = leaves-next Granted Replies (request_of_bytes n S) pointer_or_null (requested-gives n S h) (λ r V g. allocated-replies r V g)
 
-    zeroed-table : (i : ℕ) (o : Option Info) (M : Mem) → (zeroed i o M).table ≡ M.table
+    zeroed-table : (i : ℕ) (o : Option Info) (M : Mem) → (with_zeros i o M).table ≡ M.table
     zeroed-table i None M = refl
     zeroed-table i (Some x) M = refl
 
-    cleared-replies : (r : Result ℕ Reply) (S : Now) → Granted r S → Leaves Replies (cleared r S)
+    cleared-replies : (r : Result ℕ Reply) (S : Now) → Granted r S → Leaves Replies (pointer_to_zeros r S)
     cleared-replies (Err r) S h = h
     cleared-replies (Ok i) S h =
         let p = pointer-fits S.memory i h.0 h.1 in
         (λ env. p.0, inr (subst (λ U. IsFairPointer U (record { address = base_of (told_of S.memory i); prov = Inst i })) (sym (zeroed-table i (told_of S.memory i) S.memory)) p.1))
 
     calloc-replies : (count n : ℕ) (S : Now) → IsLaidOut S.memory.table → Leaves Replies (calloc count n S)
-    calloc-replies count n S h = leaves-next Granted Replies (requested (count * n) S) cleared (requested-gives (count * n) S h) (λ r V g. cleared-replies r V g)
+    calloc-replies count n S h = leaves-next Granted Replies (request_of_bytes (count * n) S) pointer_to_zeros (requested-gives (count * n) S h) (λ r V g. cleared-replies r V g)
 
-    moved-replies : (i : ℕ) (r : Result ℕ Reply) (S : Now) → Granted r S → Leaves Replies (moved i r S)
+    moved-replies : (i : ℕ) (r : Result ℕ Reply) (S : Now) → Granted r S → Leaves Replies (reply_after_move i r S)
     moved-replies i (Err r) S h = h
     moved-replies i (Ok j) S h =
         let p = pointer-fits S.memory j h.0 h.1 in
-        let U = (both (told_of S.memory i) (told_of S.memory j) S.memory).table in
+        let U = (after_block_copy (told_of S.memory i) (told_of S.memory j) S.memory).table in
         let same = both-table (told_of S.memory i) (told_of S.memory j) S.memory in
         let q : IsFairPointer U (record { address = base_of (told_of S.memory j); prov = Inst j }) = subst (λ V. IsFairPointer V (record { address = base_of (told_of S.memory j); prov = Inst j })) (sym same) p.1 in
-        (λ env. p.0, inr (made-led U (ended U i) (ended-leads U i) (Inst j) q.0, q.1))
+        (λ env. p.0, inr (made-led U (after_end U i) (ended-leads U i) (Inst j) q.0, q.1))
 
-    resized-replies : (n i : ℕ) (S : Now) → IsLaidOut S.memory.table → Leaves Replies (resized n i S)
+    resized-replies : (n i : ℕ) (S : Now) → IsLaidOut S.memory.table → Leaves Replies (resize_of n i S)
     resized-replies n i S h =
-        leaves-if Replies (eqb n 0) _ _ (null-fits S.memory.table) (leaves-next Granted Replies (requested n S) (moved i) (requested-gives n S h) (λ r V g. moved-replies i r V g))
+        leaves-if Replies (eqb n 0) _ _ (null-fits S.memory.table) (leaves-next Granted Replies (request_of_bytes n S) (reply_after_move i) (requested-gives n S h) (λ r V g. moved-replies i r V g))
 
     laid-about : {A : Type 0} (r : Result A Stop) (note : _) (d : Did A) → IsLaidOut d.after.memory.table → When (λ (a : A). IsLaidOut (about_by r note d).after.memory.table) (about_by r note d).answer
     laid-about (Ok a) note d h = when-all _ d.answer (λ a. h)
@@ -266,12 +266,12 @@ module _ (b : Setting) where
     block-laid : (c : Clause) (g : _) (S : Now) → IsLaidOut S.memory.table → Leaves (λ i V. IsLaidOut V.memory.table) (block c g S)
     block-laid c g S h =
         let found = use_answer S.memory.table g.pointer.prov (Block g.pointer.address) in
-        laid-about (block_by c g S found).answer g.stopped (block_by c g S found) (laid-led S.memory.table (settled S.memory.table g.pointer.prov found) (use-leads S.memory.table g.pointer.prov (Block g.pointer.address)) h)
+        laid-about (block_by c g S found).answer g.stopped (block_by c g S found) (laid-led S.memory.table (after_use S.memory.table g.pointer.prov found) (use-leads S.memory.table g.pointer.prov (Block g.pointer.address)) h)
 
     realloc-replies : (g : _) (n : ℕ) (S : Now) → IsLaidOut S.memory.table → Leaves Replies (realloc g n S)
     realloc-replies g n S h =
         leaves-if Replies (is_null g.pointer) _ _ (malloc-replies n S h)
-        (leaves-next (λ i V. IsLaidOut V.memory.table) Replies (block clause.Reallocating g S) (resized n) (block-laid clause.Reallocating g S h) (λ i V l. resized-replies n i V l))
+        (leaves-next (λ i V. IsLaidOut V.memory.table) Replies (block clause.Reallocating g S) (resize_of n) (block-laid clause.Reallocating g S h) (λ i V l. resized-replies n i V l))
 
   -- nothing, and numbers
   module _ (T : Table) where
@@ -279,7 +279,7 @@ module _ (b : Setting) where
     Of t r U = Fitting t T U.memory.table r
 
     free-replies : (g : _) (S : Now) → Leaves (Of VoidTy) (free g S)
-    free-replies g S = leaves-if (Of VoidTy) (is_null g.pointer) _ _ refl (leaves-next (λ a V. Unit {0}) (Of VoidTy) (block clause.Freeing g S) freed (any-step (block clause.Freeing g S)) (λ i V u. refl))
+    free-replies g S = leaves-if (Of VoidTy) (is_null g.pointer) _ _ refl (leaves-next (λ a V. Unit {0}) (Of VoidTy) (block clause.Freeing g S) end_of_block (any-step (block clause.Freeing g S)) (λ i V u. refl))
 
     sign-fits : (a c : ℕ) → Fits Int (sign_of a c)
     sign-fits a c = by (ltb a c) (eqb a c)
@@ -303,8 +303,8 @@ module _ (b : Setting) where
 
     memcmp-replies : (p q : _) (n : ℕ) (S : Now) → Leaves (Of (IntTy Int)) (memcmp p q n S)
     memcmp-replies p q n S =
-        leaves-next (λ a V. Unit {0}) (Of (IntTy Int)) (reached Text false p n S) _ (any-step (reached Text false p n S)) (λ l V u.
-        leaves-next (λ a V. Unit {0}) (Of (IntTy Int)) (reached Text false q n V) _ (any-step (reached Text false q n V)) (λ r W u.
+        leaves-next (λ a V. Unit {0}) (Of (IntTy Int)) (reach_for Text false p n S) _ (any-step (reach_for Text false p n S)) (λ l V u.
+        leaves-next (λ a V. Unit {0}) (Of (IntTy Int)) (reach_for Text false q n V) _ (any-step (reach_for Text false q n V)) (λ r W u.
         leaves-next (λ a V. Unit {0}) (Of (IntTy Int)) (characters_from n p l.address [] W) _ (any-step (characters_from n p l.address [] W)) (λ ls X u.
         leaves-next (λ a V. Unit {0}) (Of (IntTy Int)) (characters_from n q r.address [] X) _ (any-step (characters_from n q r.address [] X)) (λ rs Y u. (λ env. difference-fits ls rs, inl tt)))))
 
@@ -324,7 +324,7 @@ module _ (b : Setting) where
         leaves-next (λ a V. Unit {0}) (Of (IntTy Int)) (character_at Text q i V) _ (any-step (character_at Text q i V)) (λ c W u. by-replies a c W (compared_from n p q (i + 1) W) (compared-replies n p q (i + 1) W)))
 
     printf-replies : (args : List Arg) (S : Now) → Leaves (Of (IntTy Int)) (printf args S)
-    printf-replies args S = leaves-next (λ a V. Unit {0}) (Of (IntTy Int)) (printed args S) _ (any-step (printed args S)) (λ text V u. (λ env. equal_fits Int (pos (length text)) (convert_of Int (pos (length text))) refl refl, inl tt))
+    printf-replies args S = leaves-next (λ a V. Unit {0}) (Of (IntTy Int)) (text_of_format args S) _ (any-step (text_of_format args S)) (λ text V u. (λ env. equal_fits Int (pos (length text)) (convert_of Int (pos (length text))) refl refl, inl tt))
 
   -- the pointer in an argument
   value-handed : (T : Table) (v : Value) → IsArgument T v → ((pointer_in v).address < 2 ^ 64) × IsFairPointer T (pointer_in v)
@@ -343,19 +343,19 @@ module _ (b : Setting) where
   abbrev Replied : Ty → Table → Did Reply → Type 0
   Replied t T d = Leaves (λ r U. Fitting t T U.memory.table r) d
 
-  pub call-replies : (f : Library) (args : List Arg) (M : Mem) (t : Ty) → IsResultOf f t → Each (λ (x : Arg). IsArgument M.table x.value) args → IsLaidOut M.table → Replied t M.table (called f args M)
-  call-replies library.Malloc args M t r h l = subst (λ t. Replied t M.table (called library.Malloc args M)) (sym r.1) (malloc-replies t r.0 M.table (size args 0) (with_notes M []) l)
-  call-replies library.Calloc args M t r h l = subst (λ t. Replied t M.table (called library.Calloc args M)) (sym r.1) (calloc-replies t r.0 M.table (size args 0) (size args 1) (with_notes M []) l)
-  call-replies library.Realloc args M t r h l = subst (λ t. Replied t M.table (called library.Realloc args M)) (sym r.1) (realloc-replies t r.0 M.table (argument_at args 0 M) (size args 1) (with_notes M []) l)
-  call-replies library.Memcpy args M t r h l = subst (λ t. Replied t M.table (called library.Memcpy args M)) (sym r.1) (copy-replies t r.0 M.table args M (argument-handed M.table args 0 h) true (size args 2) (with_notes M []))
-  call-replies library.Memmove args M t r h l = subst (λ t. Replied t M.table (called library.Memmove args M)) (sym r.1) (copy-replies t r.0 M.table args M (argument-handed M.table args 0 h) false (size args 2) (with_notes M []))
-  call-replies library.Memset args M t r h l = subst (λ t. Replied t M.table (called library.Memset args M)) (sym r.1) (memset-replies t r.0 M.table args M (argument-handed M.table args 0 h) (number args 1) (size args 2) (with_notes M []))
-  call-replies library.Strcpy args M t r h l = subst (λ t. Replied t M.table (called library.Strcpy args M)) (sym r.1) (strcpy-replies t r.0 M.table args M (argument-handed M.table args 0 h) (with_notes M []))
-  call-replies library.Memcmp args M t r h l = subst (λ t. Replied t M.table (called library.Memcmp args M)) (sym r) (memcmp-replies M.table (argument_at args 0 M) (argument_at args 1 M) (size args 2) (with_notes M []))
-  call-replies library.Strcmp args M t r h l = subst (λ t. Replied t M.table (called library.Strcmp args M)) (sym r) (compared-replies M.table most (argument_at args 0 M) (argument_at args 1 M) 0 (with_notes M []))
-  call-replies library.Printf args M t r h l = subst (λ t. Replied t M.table (called library.Printf args M)) (sym r) (printf-replies M.table args (with_notes M []))
-  call-replies library.Strlen args M t r h l = subst (λ t. Replied t M.table (called library.Strlen args M)) (sym r) (strlen-replies M.table (argument_at args 0 M) (with_notes M []))
-  call-replies library.Free args M t r h l = subst (λ t. Replied t M.table (called library.Free args M)) (sym r) (free-replies M.table (argument_at args 0 M) (with_notes M []))
+  pub call-replies : (f : Library) (args : List Arg) (M : Mem) (t : Ty) → IsResultOf f t → Each (λ (x : Arg). IsArgument M.table x.value) args → IsLaidOut M.table → Replied t M.table (reply_to_call f args M)
+  call-replies library.Malloc args M t r h l = subst (λ t. Replied t M.table (reply_to_call library.Malloc args M)) (sym r.1) (malloc-replies t r.0 M.table (size args 0) (with_notes M []) l)
+  call-replies library.Calloc args M t r h l = subst (λ t. Replied t M.table (reply_to_call library.Calloc args M)) (sym r.1) (calloc-replies t r.0 M.table (size args 0) (size args 1) (with_notes M []) l)
+  call-replies library.Realloc args M t r h l = subst (λ t. Replied t M.table (reply_to_call library.Realloc args M)) (sym r.1) (realloc-replies t r.0 M.table (argument_at args 0 M) (size args 1) (with_notes M []) l)
+  call-replies library.Memcpy args M t r h l = subst (λ t. Replied t M.table (reply_to_call library.Memcpy args M)) (sym r.1) (copy-replies t r.0 M.table args M (argument-handed M.table args 0 h) true (size args 2) (with_notes M []))
+  call-replies library.Memmove args M t r h l = subst (λ t. Replied t M.table (reply_to_call library.Memmove args M)) (sym r.1) (copy-replies t r.0 M.table args M (argument-handed M.table args 0 h) false (size args 2) (with_notes M []))
+  call-replies library.Memset args M t r h l = subst (λ t. Replied t M.table (reply_to_call library.Memset args M)) (sym r.1) (memset-replies t r.0 M.table args M (argument-handed M.table args 0 h) (number args 1) (size args 2) (with_notes M []))
+  call-replies library.Strcpy args M t r h l = subst (λ t. Replied t M.table (reply_to_call library.Strcpy args M)) (sym r.1) (strcpy-replies t r.0 M.table args M (argument-handed M.table args 0 h) (with_notes M []))
+  call-replies library.Memcmp args M t r h l = subst (λ t. Replied t M.table (reply_to_call library.Memcmp args M)) (sym r) (memcmp-replies M.table (argument_at args 0 M) (argument_at args 1 M) (size args 2) (with_notes M []))
+  call-replies library.Strcmp args M t r h l = subst (λ t. Replied t M.table (reply_to_call library.Strcmp args M)) (sym r) (compared-replies M.table most (argument_at args 0 M) (argument_at args 1 M) 0 (with_notes M []))
+  call-replies library.Printf args M t r h l = subst (λ t. Replied t M.table (reply_to_call library.Printf args M)) (sym r) (printf-replies M.table args (with_notes M []))
+  call-replies library.Strlen args M t r h l = subst (λ t. Replied t M.table (reply_to_call library.Strlen args M)) (sym r) (strlen-replies M.table (argument_at args 0 M) (with_notes M []))
+  call-replies library.Free args M t r h l = subst (λ t. Replied t M.table (reply_to_call library.Free args M)) (sym r) (free-replies M.table (argument_at args 0 M) (with_notes M []))
   call-replies library.Exit args M t r h l = tt
   call-replies library.Abort args M t r h l = tt
 
@@ -364,7 +364,7 @@ module _ (b : Setting) (os : List ℕ) (w : World) (s : IsSound b os w) where
   abbrev Q : Ty → Worth → World → Type 0
   Q t = Keeping b os w s (λ v z. sound.Value b z t v)
 
-  replied-gives : (t : Ty) (r : Reply) (S : Now) (told : Told) → Keeps w.memory.table S.memory.table → AllLiveStill w.memory.table S.memory.table → AreFair S.memory.table S.memory.bytes → Fitting b t w.memory.table S.memory.table r → Answering (Q t) (replied r (with_memory w S.memory) told)
+  replied-gives : (t : Ty) (r : Reply) (S : Now) (told : Told) → Keeps w.memory.table S.memory.table → AllLiveStill w.memory.table S.memory.table → AreFair S.memory.table S.memory.bytes → Fitting b t w.memory.table S.memory.table r → Answering (Q t) (done_by_reply r (with_memory w S.memory) told)
   replied-gives t reply.Nothing S told k a f h = subst (λ u. Q u Nothing (with_memory w S.memory)) (sym h) (refl, refl, refl, refl, refl, a, f, (tt, tt))
   replied-gives t (reply.Value v) S told k a f (h, inl g) = (refl, refl, refl, refl, refl, a, f, (h (layouts b.unit), value-later w.memory.table S.memory.table k (Scalar v) g))
   replied-gives t (reply.Value v) S told k a f (h, inr g) = (refl, refl, refl, refl, refl, a, f, (h (layouts b.unit), g))
@@ -372,12 +372,12 @@ module _ (b : Setting) (os : List ℕ) (w : World) (s : IsSound b os w) where
   replied-gives t reply.Abort S told k a f h = tt
   replied-gives t (reply.Placement e) S told k a f h = tt
 
-  asked-gives : (t : Ty) (text : List ℕ) (r : Result Reply Stop) (S : Now) → Keeps w.memory.table S.memory.table → AllLiveStill w.memory.table S.memory.table → AreFair S.memory.table S.memory.bytes → When (λ r. Fitting b t w.memory.table S.memory.table r) r → Answering (Q t) (asked w text r S)
+  asked-gives : (t : Ty) (text : List ℕ) (r : Result Reply Stop) (S : Now) → Keeps w.memory.table S.memory.table → AllLiveStill w.memory.table S.memory.table → AreFair S.memory.table S.memory.bytes → When (λ r. Fitting b t w.memory.table S.memory.table r) r → Answering (Q t) (done_by_call w text r S)
   asked-gives t text (Ok r) S k a f h = replied-gives t r S _ k a f h
   asked-gives t text (Err y) S k a f h = tt
 
   pub asks-gives : (f : Library) (args : List Arg) (t : Ty) → Promised b os w (Asks f args) t → Answering (Q t) (asks f args w)
   asks-gives f args t h =
-      asked-gives t (output f args w.memory) (called f args w.memory).answer (called f args w.memory).after
-      (made-led w.memory.table (called f args w.memory).after.memory.table (called-leads (led-changes b) f args w.memory))
+      asked-gives t (output f args w.memory) (reply_to_call f args w.memory).answer (reply_to_call f args w.memory).after
+      (made-led w.memory.table (reply_to_call f args w.memory).after.memory.table (called-leads (led-changes b) f args w.memory))
       (called-closed (onward b) f args w.memory).live (call-fair b f args w.memory s.bytes) (call-replies b f args w.memory t h.0 h.1 s.laid)

@@ -10,7 +10,7 @@ use Rattle.pv_num.specs.declared.kinds.IntKind.{IntKind}
 use Rattle.pv_fault.specs.declared.faults.Clause.{Clause}
 use Rattle.pv_num.specs.Kinds.{fits_of, is_character_kind as is_character}
 use Rattle.pv_prov.specs.declared.names.Prov.{Prov}
-use Rattle.pv_prov.specs.Names.{is_empty, nobody, added}
+use Rattle.pv_prov.specs.Names.{is_empty, nobody, with_twin}
 use Rattle.pv_inst.specs.declared.values.Instance.{Instance}
 use Rattle.pv_inst.specs.declared.values.CreateError.{CreateError}
 use Rattle.pv_inst.specs.declared.values.CreateError.TheVariants.{Storage, Denied, Range as RangeError, Misaligned}
@@ -21,13 +21,13 @@ use Rattle.pv_script.specs.declared.script.Place.{Place}
 use Rattle.pv_script.specs.declared.script.Place.TheVariants.{At, Null}
 use Rattle.pv_script.specs.Places.{place_of}
 use Rattle.pv_inst.specs.Table.{Table, instance_at, with_instance, live_bytes, count_of, IsNumber}
-use Rattle.pv_inst.specs.Use.{use_answer, settled, is_heap, is_function}
+use Rattle.pv_inst.specs.Use.{use_answer, after_use, is_heap, is_function}
 use Rattle.pv_inst.specs.TwoPointers.{after_same}
 use Rattle.pv_inst.specs.Exposure.{expose}
 use Rattle.pv_inst.specs.Finding.{both_found, number_of, reaches, begins, table_by, after_name, name_at, fitting}
-use Rattle.pv_inst.specs.Placing.{Request, place, place_said, place_at, unless_overlap, counted, with_fresh, first_overlap}
-use Rattle.pv_inst.specs.PlacingParts.{rounded, fresh}
-use Rattle.pv_inst.specs.Ending.{ended}
+use Rattle.pv_inst.specs.Placing.{Request, place, place_said, place_at, unless_overlap, with_number_used, with_fresh, first_overlap}
+use Rattle.pv_inst.specs.PlacingParts.{multiple_of_16, fresh}
+use Rattle.pv_inst.specs.Ending.{after_end}
 use Rattle.pv_inst.specs.EndingParts.{ending, over}
 use Rattle.pv_inst.proofs.Rows.{IsRow, row_found}
 use Rattle.pv_inst.proofs.Together.{slice_get-set_here, slice_get-set_other}
@@ -40,8 +40,8 @@ use Rattle.pv_object.specs.declared.values.Scalar.{Scalar}
 use Rattle.pv_object.specs.declared.values.Scalar.TheVariants as scalar
 use Rattle.pv_object.specs.Access.{reach, reach_after, clause_of, is_null}
 use Rattle.pv_object.specs.Loading.{value_of, integer_of, pointer_of, pointer_named, exposed_by, is_trap}
-use Rattle.pv_object.specs.Operations.{truth, equal, equal_after, recast, to_ptr, address_of, exposed_to, to_int, to_int_after, move_under, code, together}
-use Rattle.pv_object.specs.OperationParts.{moved}
+use Rattle.pv_object.specs.Operations.{truth, pointer_equality, equal_after, recast, to_ptr, address_of, exposed_to, to_int, to_int_after, move_under, code, together}
+use Rattle.pv_object.specs.OperationParts.{address_on}
 use Rattle.pv_object.specs.Later.{still, IsLater}
 use Rattle.pv_object.proofs.Later.{still_at, settled_later, same_later, expose_later}
 use Rattle.pv_object.proofs.Born.{at_next, slice_last}
@@ -101,7 +101,7 @@ ending-others : (T : Table) (i j : ℕ) (o : Option Instance) → instance_at T.
 ending-others T i j None e d = refl
 ending-others T i j (Some x) e d = ended-other T i j x (row_found T.instances i x (sym e)) d
 
-pub ended-others : (T : Table) (i j : ℕ) → j ≢ i → instance_at (ended T i).instances j ≡ instance_at T.instances j
+pub ended-others : (T : Table) (i j : ℕ) → j ≢ i → instance_at (after_end T i).instances j ≡ instance_at T.instances j
 ended-others T i j d = ending-others T i j (instance_at T.instances i) refl d
 
 -- so that an allocation ends keeps all others
@@ -117,11 +117,11 @@ ending-here T i (Some x) e h =
     let r = row_found T.instances i x (sym e) in
     subst (λ o. LiveStill (Some x) o) (sym (at-row T.instances i (over x) r.from_one r.within)) (record { size = refl; kind = refl; live = λ k l. absurd (heap-not (sym h.1 ∙ k)) })
 
-pub ended-live : (T : Table) (i : ℕ) → IsAllocation T i → AllLiveStill T (ended T i)
+pub ended-live : (T : Table) (i : ℕ) → IsAllocation T i → AllLiveStill T (after_end T i)
 ended-live T i h j = by (same_or_not j i)
   where
-    by : (j ≡ i) ⊎ (j ≢ i) → LiveStill (instance_at T.instances j) (instance_at (ended T i).instances j)
-    by (inl e) = subst (λ k. LiveStill (instance_at T.instances k) (instance_at (ended T i).instances k)) (sym e) (ending-here T i (instance_at T.instances i) refl h)
+    by : (j ≡ i) ⊎ (j ≢ i) → LiveStill (instance_at T.instances j) (instance_at (after_end T i).instances j)
+    by (inl e) = subst (λ k. LiveStill (instance_at T.instances k) (instance_at (after_end T i).instances k)) (sym e) (ending-here T i (instance_at T.instances i) refl h)
     by (inr d) = subst (λ o. LiveStill (instance_at T.instances j) o) (sym (ended-others T i j d)) (lives-itself (instance_at T.instances j))
 
 -- an object that lives has an instance, and lives still
@@ -153,14 +153,14 @@ pub new-other : (T : Table) (i j n : ℕ) → instance_at T.instances i ≡ None
 new-other T i j n e h f = subst (λ o. IsHomeIn o n) (ap (instance_at T.instances) f ∙ e) h
 
 -- a use, an exposure, and an integer that is converted to a pointer (6.3.2.3p5)
-pub uses-live : (T : Table) (p : Prov) (r : Result Tried Miss) → AllLiveStill T (settled T p r)
-uses-live T p r = later-live T (settled T p r) (settled_later T p r)
+pub uses-live : (T : Table) (p : Prov) (r : Result Tried Miss) → AllLiveStill T (after_use T p r)
+uses-live T p r = later-live T (after_use T p r) (settled_later T p r)
 
 both-live : (T : Table) (low high : Option ℕ) → AllLiveStill T (table_by T (both_found low high))
 both-live T None None = all-same T
 both-live T None (Some i) = all-same T
 both-live T (Some i) None = all-same T
-both-live T (Some i) (Some j) = same-live T (record T { pairs = added T.pairs i j }) refl
+both-live T (Some i) (Some j) = same-live T (record T { pairs = with_twin T.pairs i j }) refl
 
 names-live : (T : Table) (a : ℕ) → AllLiveStill T (after_name T a)
 names-live T a = by (eqb a 0)
@@ -196,7 +196,7 @@ named-live T (Some p) a = uses-live T p (use_answer T p Live)
 named-live T None a =
     let U = after_name T a in
     let p = name_at T a in
-    all-on T U (settled U p (use_answer U p Live)) (names-live T a) (uses-live U p (use_answer U p Live))
+    all-on T U (after_use U p (use_answer U p Live)) (names-live T a) (uses-live U p (use_answer U p Live))
 
 pointer-live : (T : Table) (bytes : List Byte) (o : Option ℕ) → AllLiveStill T (pointer_of T bytes o).1
 pointer-live T bytes None = all-same T
@@ -212,10 +212,10 @@ truth-live T p = uses-live T p.prov (use_answer T p.prov Live)
 equal-after : (T : Table) (p q : Pointer) (r : Result Tried Miss) → AllLiveStill T (equal_after T p q r).1
 equal-after T p q (Err m) = all-same T
 equal-after T p q (Ok left) =
-    let U = settled T p.prov (Ok left) in
-    all-on T U (settled U q.prov (use_answer U q.prov Live)) (uses-live T p.prov (Ok left)) (uses-live U q.prov (use_answer U q.prov Live))
+    let U = after_use T p.prov (Ok left) in
+    all-on T U (after_use U q.prov (use_answer U q.prov Live)) (uses-live T p.prov (Ok left)) (uses-live U q.prov (use_answer U q.prov Live))
 
-pub equal-live : (T : Table) (p q : Pointer) → AllLiveStill T (equal T p q).1
+pub equal-live : (T : Table) (p q : Pointer) → AllLiveStill T (pointer_equality T p q).1
 equal-live T p q = equal-after T p q (use_answer T p.prov Live)
 
 pub to_ptr-live : (T : Table) (n : ℤ) → AllLiveStill T (to_ptr T n).1
@@ -231,7 +231,7 @@ exposed-if T p false tried = all-same T
 to_int-after : (T : Table) (p : Pointer) (k : IntKind) (r : Result Tried Miss) → AllLiveStill T (to_int_after T p k r).1
 to_int-after T p k (Err m) = all-same T
 to_int-after T p k (Ok tried) =
-    let U = settled T p.prov (Ok tried) in
+    let U = after_use T p.prov (Ok tried) in
     let fits = fits_of k (pos p.address) in
     all-on T U (exposed_to U p fits tried).1 (uses-live T p.prov (Ok tried)) (exposed-if U p fits tried)
 
@@ -241,7 +241,7 @@ to_int-live T p k = to_int-after T p k (use_answer T p.prov Live)
 pub move-live : (c : Clause) (T : Table) (p : Pointer) (by : ℤ) → AllLiveStill T (move_under c T p by).1
 move-live c T p by =
     pair-if (is_null p) T _ _ (all-same T)
-    (pair-if (is_empty p.prov) T _ _ (all-same T) (uses-live T p.prov (use_answer T p.prov (Range (moved p.address by) 0))))
+    (pair-if (is_empty p.prov) T _ _ (all-same T) (uses-live T p.prov (use_answer T p.prov (Range (address_on p.address by) 0))))
 
 pub code-live : (T : Table) (p : Pointer) → AllLiveStill T (code T p).1
 code-live T p = pair-if (is_null p) T _ _ (all-same T) (pair-if (is_empty p.prov) T _ _ (all-same T) (uses-live T p.prov (use_answer T p.prov (Code p.address))))
@@ -251,7 +251,7 @@ together-live c T p q = pair-if (is_null p || is_null q) T _ _ (all-same T) (lat
 
 -- a request that is refused since too many bytes live
 abbrev denied-by : Table → Request → Result ℕ CreateError × Table
-denied-by T r = (Err (if is_heap r.kind then Denied else Storage (live_bytes T.instances) r.size), counted T r.name)
+denied-by T r = (Err (if is_heap r.kind then Denied else Storage (live_bytes T.instances) r.size), with_number_used T r.name)
 
 -- a request, granted or not, of what is no function
 push-live : (xs : List Instance) (y : Instance) (k : ℕ) → is_function y.kind ≡ false → LiveStill (slice_get xs k) (slice_get (xs ++ y ∷ []) k)
@@ -280,14 +280,14 @@ module _ (T : Table) (r : Request) (stored : is_function r.kind ≡ false) where
       (pair-if (not (eqb (base % r.align) 0)) T _ _ (all-same T) (overlap-live k base default (first_overlap T.instances base r.size)))
 
   said-live : (k : ℕ) (o : Option Place) → AllLiveStill T (place_said o T r k).1
-  said-live k None = at-live k (rounded T.cursor) true
+  said-live k None = at-live k (multiple_of_16 T.cursor) true
   said-live k (Some (At base)) = at-live k base false
-  said-live k (Some Null) = same-live T (counted T r.name) refl
+  said-live k (Some Null) = same-live T (with_number_used T r.name) refl
 
   pub place-live : AllLiveStill T (place T r).1
   place-live =
       let k = count_of T r.name + 1 in
-      pair-if (ltb (2 ^ 24) (live_bytes T.instances + r.size)) T (denied-by T r) (place_said (place_of T.script r.text k) T r k) (same-live T (counted T r.name) refl) (said-live k (place_of T.script r.text k))
+      pair-if (ltb (2 ^ 24) (live_bytes T.instances + r.size)) T (denied-by T r) (place_said (place_of T.script r.text k) T r k) (same-live T (with_number_used T r.name) refl) (said-live k (place_of T.script r.text k))
 
 -- what is made is the next instance; and it lives, is as large as was asked for, and is of this kind
 pub record IsNext (T : Table) (r : Request) (i : ℕ) (U : Table) : Type 0 where
@@ -336,14 +336,14 @@ module _ (T : Table) (r : Request) where
       (made-if (not (eqb (base % r.align) 0)) (Err (Misaligned k base), T) (unless_overlap (first_overlap T.instances base r.size) T r k base default) (not-made (Misaligned k base) T) (overlap-made k base default (first_overlap T.instances base r.size)))
 
   said-made : (k : ℕ) (o : Option Place) → IsMade (place_said o T r k)
-  said-made k None = at-made k (rounded T.cursor) true
+  said-made k None = at-made k (multiple_of_16 T.cursor) true
   said-made k (Some (At base)) = at-made k base false
-  said-made k (Some Null) = not-made Denied (counted T r.name)
+  said-made k (Some Null) = not-made Denied (with_number_used T r.name)
 
   pub next-made : IsMade (place T r)
   next-made =
       let k = count_of T r.name + 1 in
-      made-if (ltb (2 ^ 24) (live_bytes T.instances + r.size)) (denied-by T r) (place_said (place_of T.script r.text k) T r k) (not-made (if is_heap r.kind then Denied else Storage (live_bytes T.instances) r.size) (counted T r.name)) (said-made k (place_of T.script r.text k))
+      made-if (ltb (2 ^ 24) (live_bytes T.instances + r.size)) (denied-by T r) (place_said (place_of T.script r.text k) T r k) (not-made (if is_heap r.kind then Denied else Storage (live_bytes T.instances) r.size) (with_number_used T r.name)) (said-made k (place_of T.script r.text k))
 
 -- the home of an object
 pub next-home : (T U : Table) (r : Request) (i : ℕ) → is_heap r.kind ≡ false → IsNext T r i U → IsHome U i r.size
@@ -382,18 +382,18 @@ ending-code : (T : Table) (i : ℕ) (o : Option Instance) → instance_at T.inst
 ending-code T i None e h = subst IsCodeIn e h
 ending-code T i (Some x) e h = let r = row_found T.instances i x (sym e) in subst IsCodeIn (at-row T.instances i (over x) r.from_one r.within) h
 
-pub ended-code : (T : Table) (i j : ℕ) → IsCode (ended T i) j → IsCode T j
+pub ended-code : (T : Table) (i j : ℕ) → IsCode (after_end T i) j → IsCode T j
 ended-code T i j c = by (same_or_not j i)
   where
     by : (j ≡ i) ⊎ (j ≢ i) → IsCode T j
-    by (inl e) = subst (λ k. IsCode T k) (sym e) (ending-code T i (instance_at T.instances i) refl (subst (λ k. IsCode (ended T i) k) e c))
+    by (inl e) = subst (λ k. IsCode T k) (sym e) (ending-code T i (instance_at T.instances i) refl (subst (λ k. IsCode (after_end T i) k) e c))
     by (inr n) = subst IsCodeIn (ended-others T i j n) c
 
 ending-length : (T : Table) (i : ℕ) (o : Option Instance) → length (ending T i o).instances ≡ length T.instances
 ending-length T i None = refl
 ending-length T i (Some x) = length-set T.instances (i - 1) (over x)
 
-pub ended-length : (T : Table) (i : ℕ) → length (ended T i).instances ≡ length T.instances
+pub ended-length : (T : Table) (i : ℕ) → length (after_end T i).instances ≡ length T.instances
 ended-length T i = ending-length T i (instance_at T.instances i)
 
 -- what was made since is no function, also where it ended
@@ -409,5 +409,5 @@ none-lives : (o : Option Instance) → (IsCodeIn o → ⊥) → LiveStill None o
 none-lives None h = tt
 none-lives (Some y) h = not-true (is_function y.kind) h
 
-pub ended-none : (T : Table) (i j : ℕ) → LiveStill None (instance_at T.instances j) → LiveStill None (instance_at (ended T i).instances j)
-ended-none T i j l = none-lives (instance_at (ended T i).instances j) (λ c. no-code-in (instance_at T.instances j) l (ended-code T i j c))
+pub ended-none : (T : Table) (i j : ℕ) → LiveStill None (instance_at T.instances j) → LiveStill None (instance_at (after_end T i).instances j)
+ended-none T i j l = none-lives (instance_at (after_end T i).instances j) (λ c. no-code-in (instance_at T.instances j) l (ended-code T i j c))

@@ -6,7 +6,7 @@ use Rattle.std.proofs.lemmas.Bool.Decides.{nat_tests}
 use Rattle.pv_num.specs.declared.kinds.IntKind.{IntKind}
 use Rattle.pv_num.specs.declared.kinds.IntKind.TheVariants.{Bool as BoolKind, Char, SChar, UChar, Short, UShort, Int, UInt, Long, ULong, LLong, ULLong}
 use Rattle.pv_num.specs.Arithmetic.{IsPromoted}
-use Rattle.pv_num.specs.Kinds.{Fits, fits_of, least, greatest, promoted}
+use Rattle.pv_num.specs.Kinds.{Fits, fits_of, least_member, greatest_member, promotion_of}
 
 pub both : (a b : Bool) → a ≡ true → b ≡ true → (a && b) ≡ true
 both true b e f = f
@@ -16,7 +16,7 @@ pub le_tested : (a b : ℤ) → a ≤ℤ b → int_le a b ≡ true
 le_tested a b h = grind (arith, ints, nat_tests)
 
 pub fits_tested : (k : IntKind) (n : ℤ) → Fits k n → fits_of k n ≡ true
-fits_tested k n h = both (int_le (least k) n) (int_le n (greatest k)) (le_tested (least k) n h.0) (le_tested n (greatest k) h.1)
+fits_tested k n h = both (int_le (least_member k) n) (int_le n (greatest_member k)) (le_tested (least_member k) n h.0) (le_tested n (greatest_member k) h.1)
 
 -- 6.2.5: every kind lies within these
 pub within_all : (k : IntKind) (n : ℤ) → Fits k n → (neg_ℤ (pos (2 ^ 63)) ≤ℤ n) × (n ≤ℤ pos (2 ^ 64 - 1))
@@ -49,7 +49,7 @@ zero_fits LLong = (grind (arith, ints), grind (arith, ints))
 zero_fits ULLong = (grind (arith, ints), grind (arith, ints))
 
 -- 6.3.1.1p2: `int` has the numbers of the lesser kinds
-pub promoted_widens : (k : IntKind) (n : ℤ) → Fits k n → Fits (promoted k) n
+pub promoted_widens : (k : IntKind) (n : ℤ) → Fits k n → Fits (promotion_of k) n
 promoted_widens BoolKind n h = (grind (arith, ints), grind (arith, ints))
 promoted_widens Char n h = (grind (arith, ints), grind (arith, ints))
 promoted_widens SChar n h = (grind (arith, ints), grind (arith, ints))
@@ -63,7 +63,7 @@ promoted_widens ULong n h = h
 promoted_widens LLong n h = h
 promoted_widens ULLong n h = h
 
-pub promoted_is : (k : IntKind) → IsPromoted (promoted k)
+pub promoted_is : (k : IntKind) → IsPromoted (promotion_of k)
 promoted_is BoolKind = omega arith
 promoted_is Char = omega arith
 promoted_is SChar = omega arith
@@ -77,7 +77,7 @@ promoted_is ULong = omega arith
 promoted_is LLong = omega arith
 promoted_is ULLong = omega arith
 
-pub one_fits : (k : IntKind) → Fits (promoted k) (pos 1)
+pub one_fits : (k : IntKind) → Fits (promotion_of k) (pos 1)
 one_fits BoolKind = (grind (arith, ints), grind (arith, ints))
 one_fits Char = (grind (arith, ints), grind (arith, ints))
 one_fits SChar = (grind (arith, ints), grind (arith, ints))

@@ -6,17 +6,17 @@ use Rattle.std.specs.FinMap.{get-insert}
 use Rattle.std.specs.Cmp.{nat_cmp_total, unsigned_tied}
 use Rattle.std.proofs.lemmas.Bool.Decides.{nat_tests}
 use Rattle.pv_types.specs.Ty.{Ty}
-use Rattle.pv_types.specs.Sorts.{bare}
+use Rattle.pv_types.specs.Sorts.{bare_type}
 use Rattle.pv_inst.specs.declared.values.CreateError.{CreateError}
 use Rattle.pv_inst.specs.Table.{Table, instance_at, IsNumber}
 use Rattle.pv_inst.specs.Placing.{Request, place}
-use Rattle.pv_inst.specs.Ending.{ended}
+use Rattle.pv_inst.specs.Ending.{after_end}
 use Rattle.pv_inst.specs.Use.{is_heap, is_function}
 use Rattle.pv_inst.proofs.Apartness.{same_or_not}
 use Rattle.pv_shadow.specs.declared.byte.Byte.{Byte}
-use Rattle.pv_shadow.specs.Whole.{plain}
+use Rattle.pv_shadow.specs.Whole.{number_bytes}
 use Rattle.pv_object.specs.Memory.{Mem}
-use Rattle.pv_object.specs.Creating.{made, without}
+use Rattle.pv_object.specs.Creating.{with_new_bytes, without}
 use Rattle.pv_object.proofs.Born.{IsBorn, born}
 use Rattle.pv_typed.specs.Known.{Each}
 use Rattle.pv_typed.specs.TypedUnits.{object_at, literal_at}
@@ -24,7 +24,7 @@ use Rattle.pv_world.specs.Worlds.{Worth, World, Bindings}
 use Rattle.pv_world.specs.Objects.{bind, bound_in, bind_in, owning, owner_of, instance_of, base_in, makes_object}
 use Rattle.pv_world.specs.ObjectParts.{owned_next, object_made, filling}
 use Rattle.pv_eval.specs.States.{Setting, State}
-use Rattle.pv_eval.specs.Acting.{sided}
+use Rattle.pv_eval.specs.Acting.{with_side}
 use Rattle.pv_eval.specs.TypeForms.{lvalue, size_of}
 use Rattle.pv_world.specs.Accesses.{stored_as}
 use Rattle.pv_eval.specs.Objects.{request_of, instance_for, text_for}
@@ -40,7 +40,7 @@ use Rattle.pv_guards.specs.Fair.{IsFair}
 use Rattle.pv_guards.specs.Typed.{IsIn, IsInScope, IsValueType}
 use Rattle.pv_guards.specs.Soundness.{Value, IsHomeIn, IsHome, IsCode, LiveStill, AllLiveStill, IsSound, IsAfter}
 use Rattle.pv_guards.specs.TypedStatements.{IsMakeable}
-use Rattle.pv_guards.specs.Plain.{plainly, act_plainly}
+use Rattle.pv_guards.specs.Plain.{plain_doing, act_plainly}
 use Rattle.pv_guards.proofs.Found.{no-name}
 use Rattle.pv_guards.proofs.Fair.{Keeps, store-later, written-fair, plain-fair}
 use Rattle.pv_guards.proofs.Living.{all-same, all-on, place-live, IsNext, next-made, next-home, home-later, none-earlier, new-other, ended-others, ended-code, ended-none, ended-length, code-earlier, not-code}
@@ -130,11 +130,11 @@ module _ (b : Setting) (os : List ℕ) where
   keeps-any : (v : Worth) (w z : World) → IsAfter w z → Any v w → Any v z
   keeps-any v w z g h = tt
 
-  stores-so : (line : ℕ) (op : Op) → IsAsked b op → (w : World) → ((z : World) (g : IsAfter w z) (s : IsSound b os z) → (does b op z ≡ plainly b op z) × Answering (Keeping b os z s Any) (plainly b op z)) → Holds (ordered b os) Any w (act b line op) (act_plainly b line op)
+  stores-so : (line : ℕ) (op : Op) → IsAsked b op → (w : World) → ((z : World) (g : IsAfter w z) (s : IsSound b os z) → (does b op z ≡ plain_doing b op z) × Answering (Keeping b os z s Any) (plain_doing b op z)) → Holds (ordered b os) Any w (act b line op) (act_plainly b line op)
   stores-so line op is w h =
       acts-so b os Any keeps-any line op w (λ z g s.
       let p = h z g s in
-      (p.0, leaves-keeping b os z s Any (plainly b op z) (subst (λ d. Onward (OfTables (Led ⊥)) z d) p.0 (does-on b (led-changes b) op is z)) p.1))
+      (p.0, leaves-keeping b os z s Any (plain_doing b op z) (subst (λ d. Onward (OfTables (Led ⊥)) z d) p.0 (does-on b (led-changes b) op is z)) p.1))
 
   module _ (line o : ℕ) (w : World) (scope : IsInScope b.unit os o) (small : size_of b (object_at b.unit o).t ≤ 2 ^ 32) where
     pub fills-holds : (v : Option ℕ) → ((n : ℕ) → v ≡ Some n → n < 256) → Holds (ordered b os) Any w (act b line (Fills o v)) (act_plainly b line (Fills o v))
@@ -146,7 +146,7 @@ module _ (b : Setting) (os : List ℕ) where
           (refl, refl, refl, refl, refl, all-same T, written-fair T z.memory.bytes (base_in z (instance_of z o (object_at b.unit o).lasting)) (replicate n (filling v)) s.bytes (all-fair-of T n (filling v) (filling-fair-of T v h)), tt),
         ))
 
-    pub puts-holds : (offset : ℕ) (t : Ty) (v : Worth) → offset + size_of b t ≤ size_of b (object_at b.unit o).t → IsValueType (bare t) → IsThere v → ((z : World) → IsAfter w z → Value b z (bare t) v)
+    pub puts-holds : (offset : ℕ) (t : Ty) (v : Worth) → offset + size_of b t ≤ size_of b (object_at b.unit o).t → IsValueType (bare_type t) → IsThere v → ((z : World) → IsAfter w z → Value b z (bare_type t) v)
         → Holds (ordered b os) Any w (act b line (Puts o offset (lvalue b t) v)) (act_plainly b line (Puts o offset (lvalue b t) v))
     puts-holds offset t v lies valued there h =
         stores-so line (Puts o offset (lvalue b t) v) (t, refl) w (λ z g s.
@@ -163,7 +163,7 @@ module _ (b : Setting) (os : List ℕ) where
         stores-so line (PutsText o offset size l) tt w (λ z g s.
         let T = z.memory.table in (
           text-same b z o (s.objects o scope) offset size l small lies,
-          (refl, refl, refl, refl, refl, all-same T, written-fair T z.memory.bytes (base_in z (instance_of z o (object_at b.unit o).lasting) + offset) (plain None 0 (text_for b size l)) s.bytes (plain-fair T None 0 (text_for b size l) (take-small size (literal_at b.unit l).bytes h)), tt),
+          (refl, refl, refl, refl, refl, all-same T, written-fair T z.memory.bytes (base_in z (instance_of z o (object_at b.unit o).lasting) + offset) (number_bytes None 0 (text_for b size l)) s.bytes (plain-fair T None 0 (text_for b size l) (take-small size (literal_at b.unit l).bytes h)), tt),
         ))
 
 -- an instance that was made has a number, and is new
@@ -265,10 +265,10 @@ inserted P m o i q h g = by (same_or_not q o)
     by (inr n) = subst P (sym (bound-other m o i q n)) (g n)
 
 -- a side of a pair changes no binding
-pub within-sided : (b : Setting) (os : List ℕ) (rest : List Bindings) (w : World) (v : Worth) (z : World) (k : ℕ) (high : Bool) → Within b os rest w z → Within b os rest w (sided z k high)
+pub within-sided : (b : Setting) (os : List ℕ) (rest : List Bindings) (w : World) (v : Worth) (z : World) (k : ℕ) (high : Bool) → Within b os rest w z → Within b os rest w (with_side z k high)
 within-sided b os rest w v z k high h =
     let g = sides-keep b os z k high h.sound in
-    record { later = later-after h.later g.0; sound = g.1; body = (h.body.0, g.0.bodies ∙ h.body.1); own = own-after b os w z (sided z k high) g.0 h.own }
+    record { later = later-after h.later g.0; sound = g.1; body = (h.body.0, g.0.bodies ∙ h.body.1); own = own-after b os w z (with_side z k high) g.0 h.own }
 
 module _ (b : Setting) (os : List ℕ) (rest : List Bindings) (w : World) where
   -- 6.2.4p2, p6: an automatic object begins, in an instance of its own
@@ -330,9 +330,9 @@ module _ (b : Setting) (os : List ℕ) (rest : List Bindings) (w : World) where
             by (inr (k, f)) = ap (instance_at w.memory.table.instances) f ∙ h.own q (subst (λ c. IsIn q (if c then b.unit.statics else os)) a k) a
 
     begun : (name : ℕ) (r : Request) (got : Result ℕ CreateError × Table) → r.size ≡ size_of b (object_at b.unit o).t → is_heap r.kind ≡ false → is_function r.kind ≡ false → place z.memory.table r ≡ got → Led ⊥ z.memory.table got.1 → AllLiveStill z.memory.table got.1 → ((i : ℕ) → got.0 ≡ Ok i → IsNext z.memory.table r i got.1)
-        → Answering (λ v y. Within b (o ∷ os) rest w y) (object_made z o false name (made z.memory got))
+        → Answering (λ v y. Within b (o ∷ os) rest w y) (object_made z o false name (with_new_bytes z.memory got))
     begun name r (Ok i, U) large object stored e l a next =
-        let M = (made z.memory (Ok i, U)).1 in
+        let M = (with_new_bytes z.memory (Ok i, U)).1 in
         let y = bind (owning z M i (Some o)) o false i in
         let new = placed-new z.memory.table r (Ok i, U) e i refl in
         let n = next i refl in
@@ -362,7 +362,7 @@ module _ (b : Setting) (os : List ℕ) (rest : List Bindings) (w : World) where
         }
     begun name r (Err y, U) large object stored e l a next = tt
 
-    object-begins : Answering (λ v y. Within b (o ∷ os) rest w y) (plainly b (Makes o) z)
+    object-begins : Answering (λ v y. Within b (o ∷ os) rest w y) (plain_doing b (Makes o) z)
     object-begins =
         let x = object_at b.unit o in
         let r = request_of b x in
@@ -410,7 +410,7 @@ module _ (b : Setting) (os : List ℕ) (rest : List Bindings) (w : World) where
     object-ends : Within b os rest w left × Keeps z.memory.table left.memory.table
     object-ends =
         let T = z.memory.table in
-        let U = ended T number in
+        let U = after_end T number in
         let l : Led ⊥ T U = ended-leads T number in
         let keeps = made-led T U l in (
           record {
@@ -437,5 +437,5 @@ module _ (b : Setting) (os : List ℕ) (rest : List Bindings) (w : World) where
       does-sure b (λ v z. Within b os rest w z × Keeps s.world.memory.table z.memory.table) closed line (Ends d) s
       (ends-same b s.world d (h.sound.objects d (in-scope b (d ∷ os) d m.storage (inl refl)))) (object-ends s.world d m.storage other h)
     where
-      closed : (v : Worth) (z : World) (k : ℕ) (high : Bool) → Within b os rest w z × Keeps s.world.memory.table z.memory.table → Within b os rest w (sided z k high) × Keeps s.world.memory.table (sided z k high).memory.table
+      closed : (v : Worth) (z : World) (k : ℕ) (high : Bool) → Within b os rest w z × Keeps s.world.memory.table z.memory.table → Within b os rest w (with_side z k high) × Keeps s.world.memory.table (with_side z k high).memory.table
       closed v z k high q = (within-sided b os rest w v z k high q.0, λ p g. (sides-keep b os z k high q.0.sound).0.made p (q.1 p g))

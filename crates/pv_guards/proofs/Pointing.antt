@@ -14,7 +14,7 @@ use Rattle.pv_inst.specs.declared.values.Test.TheVariants.{Live, Range}
 use Rattle.pv_inst.specs.declared.values.Tried.{Tried}
 use Rattle.pv_inst.specs.declared.values.Miss.{Miss}
 use Rattle.pv_inst.specs.Table.{Table, instance_at, IsMadeIn}
-use Rattle.pv_inst.specs.Use.{use_answer, settled}
+use Rattle.pv_inst.specs.Use.{use_answer, after_use}
 use Rattle.pv_inst.specs.Finding.{name_at, after_name}
 use Rattle.pv_inst.specs.TwoPointers.{same_miss, miss_of_two, same_by, same_answer}
 use Rattle.pv_shadow.specs.declared.byte.Byte.{Byte}
@@ -27,7 +27,7 @@ use Rattle.pv_object.specs.Values.{IsOf}
 use Rattle.pv_object.specs.Encoding.{size_of}
 use Rattle.pv_object.specs.Access.{is_null}
 use Rattle.pv_object.specs.Loading.{Loaded, pointer_named, pointer_of, is_trap, integer_of, value_of}
-use Rattle.pv_object.specs.OperationParts.{live_answer, moved_by, moved, both_or_stop}
+use Rattle.pv_object.specs.OperationParts.{live_answer, moved_by, address_on, both_or_stop}
 use Rattle.pv_object.specs.Operations.{address_of, move_under, together}
 use Rattle.pv_object.proofs.Later.{made_later, settled_later}
 use Rattle.pv_typed.specs.Known.{Each}
@@ -50,8 +50,8 @@ Points (Ok r, T) = IsPointing T r.0
 Points (Err y, T) = Unit {0}
 
 -- a name is used
-pub settled-made : (T : Table) (p q : Prov) (r : Result Tried Miss) → IsMadeIn T q → IsMadeIn (settled T p r) q
-settled-made T p q r h = made_later T (settled T p r) q (settled_later T p r) h
+pub settled-made : (T : Table) (p q : Prov) (r : Result Tried Miss) → IsMadeIn T q → IsMadeIn (after_use T p r) q
+settled-made T p q r h = made_later T (after_use T p r) q (settled_later T p r) h
 
 address-small : (n : ℤ) → address_of n < 2 ^ 64
 address-small (pos a) = omega arith
@@ -70,7 +70,7 @@ module _ (T : Table) (within : (i : ℕ) (x : Instance) → instance_at T.instan
   integer-loads k bytes None = loads-if (scalar.Int k) (is_character k) _ _ (λ e. (e, tt)) tt
   integer-loads k bytes (Some n) = loads-if (scalar.Int k) (is_trap k n) _ _ (λ e. tt) (equal_fits k (pos n) (convert_of k (pos n)) refl refl, tt)
 
-  live-loads : (U : Table) (p : Pointer) (r : Result Tried Miss) → IsPointing U p → Loads scalar.Pointer (live_answer p r, settled U p.prov r)
+  live-loads : (U : Table) (p : Pointer) (r : Result Tried Miss) → IsPointing U p → Loads scalar.Pointer (live_answer p r, after_use U p.prov r)
   live-loads U p (Ok tried) h = (h.0, (settled-made U p.prov p.prov (Ok tried) h.1.0, h.1.1))
   live-loads U p (Err m) h = tt
 
@@ -93,7 +93,7 @@ module _ (T : Table) (within : (i : ℕ) (x : Instance) → instance_at T.instan
   ptr-points n = (address-small n, name-fair T within (address_of n))
 
   -- 6.5.6p8: a pointer that is moved
-  moved-points : (c : Clause) (p : Pointer) (a : ℕ) (r : Result Tried Miss) → use_answer T p.prov (Range a 0) ≡ r → IsMadeIn T p.prov → Points (moved_by c p a r, settled T p.prov r)
+  moved-points : (c : Clause) (p : Pointer) (a : ℕ) (r : Result Tried Miss) → use_answer T p.prov (Range a 0) ≡ r → IsMadeIn T p.prov → Points (moved_by c p a r, after_use T p.prov r)
   moved-points c p a (Err m) e h = tt
   moved-points c p a (Ok tried) e h =
       let l = range-low T within p.prov a 0 tried e in
@@ -106,7 +106,7 @@ module _ (T : Table) (within : (i : ℕ) (x : Instance) → instance_at T.instan
   pub move-points : (c : Clause) (p : Pointer) (by : ℤ) → IsMadeIn T p.prov → Points (move_under c T p by)
   move-points c p by h =
       points-if (is_null p) _ _ tt
-      (points-if (is_empty p.prov) _ _ tt (moved-points c p (moved p.address by) (use_answer T p.prov (Range (moved p.address by) 0)) refl h))
+      (points-if (is_empty p.prov) _ _ tt (moved-points c p (address_on p.address by) (use_answer T p.prov (Range (address_on p.address by) 0)) refl h))
 
   -- 6.5.6p9: two pointers that are settled to what they have in common have names
   if-none : (c : Bool) (m : Miss) (o : Option Miss) → cond c (Some m) o ≡ None → c ≡ false

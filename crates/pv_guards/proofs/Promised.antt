@@ -9,7 +9,7 @@ use Rattle.pv_eval.specs.TypeForms.{Lvalue}
 use Rattle.pv_eval.specs.Operations.{Op, Converts, Calculates, CalculatesOne, Tests, Negates, Accepts, Needs, Moves, Subtracts, Orders, Equals, Follows, Selects, Finds, TakesPart, Reads, Writes, NamesObject, NamesLiteral, NamesFunction, Makes, MakesLiteral, MakesFunction, Ends, BeginsBody, EndsBody, Fills, Puts, PutsText, Asks, does}
 use Rattle.pv_eval.proofs.Closed.{IsAsked}
 use Rattle.pv_guards.specs.Worths.{IsOfType}
-use Rattle.pv_guards.specs.Plain.{plainly}
+use Rattle.pv_guards.specs.Plain.{plain_doing}
 use Rattle.pv_guards.specs.Soundness.{Value}
 use Rattle.pv_guards.specs.Promises.{Promised}
 use Rattle.pv_guards.proofs.Suits.{Known, fair-known, asks-it, converts, calculates, calculates-one, tests, negates, needs, moves, subtracts, orders, equals, selects, takes-part, reads, writes, writes-missing}
@@ -19,13 +19,13 @@ module _ (b : Setting) (os : List ℕ) (w : World) where
   known t v h = fair-known w v h.1
 
   -- 6.5.16p3, 6.9.1p12: of a value that is there or not
-  writes-to : (l : Lvalue) (t : Ty) (place v : Worth) (from : Option ℕ) (rivals : List Access) → Promised b os w (Writes l place v from rivals) t → does b (Writes l place v from rivals) w ≡ plainly b (Writes l place v from rivals) w
+  writes-to : (l : Lvalue) (t : Ty) (place v : Worth) (from : Option ℕ) (rivals : List Access) → Promised b os w (Writes l place v from rivals) t → does b (Writes l place v from rivals) w ≡ plain_doing b (Writes l place v from rivals) w
   writes-to l t place Missing from rivals h = writes-missing b w l place from rivals
-  writes-to l t place Nothing from rivals h = subst (λ l. does b (Writes l place Nothing from rivals) w ≡ plainly b (Writes l place Nothing from rivals) w) (sym h.1) (writes b w h.0 place Nothing from rivals h.2 h.3 (subst (λ q. IsOfType (layouts b.unit) q Nothing) h.4 h.6.0) tt (known (PointerTo h.0) place h.5) (known t Nothing h.6))
-  writes-to l t place (Scalar v) from rivals h = subst (λ l. does b (Writes l place (Scalar v) from rivals) w ≡ plainly b (Writes l place (Scalar v) from rivals) w) (sym h.1) (writes b w h.0 place (Scalar v) from rivals h.2 h.3 (subst (λ q. IsOfType (layouts b.unit) q (Scalar v)) h.4 h.6.0) tt (known (PointerTo h.0) place h.5) (known t (Scalar v) h.6))
-  writes-to l t place (Whole bs a) from rivals h = subst (λ l. does b (Writes l place (Whole bs a) from rivals) w ≡ plainly b (Writes l place (Whole bs a) from rivals) w) (sym h.1) (writes b w h.0 place (Whole bs a) from rivals h.2 h.3 (subst (λ q. IsOfType (layouts b.unit) q (Whole bs a)) h.4 h.6.0) tt (known (PointerTo h.0) place h.5) (known t (Whole bs a) h.6))
+  writes-to l t place Nothing from rivals h = subst (λ l. does b (Writes l place Nothing from rivals) w ≡ plain_doing b (Writes l place Nothing from rivals) w) (sym h.1) (writes b w h.0 place Nothing from rivals h.2 h.3 (subst (λ q. IsOfType (layouts b.unit) q Nothing) h.4 h.6.0) tt (known (PointerTo h.0) place h.5) (known t Nothing h.6))
+  writes-to l t place (Scalar v) from rivals h = subst (λ l. does b (Writes l place (Scalar v) from rivals) w ≡ plain_doing b (Writes l place (Scalar v) from rivals) w) (sym h.1) (writes b w h.0 place (Scalar v) from rivals h.2 h.3 (subst (λ q. IsOfType (layouts b.unit) q (Scalar v)) h.4 h.6.0) tt (known (PointerTo h.0) place h.5) (known t (Scalar v) h.6))
+  writes-to l t place (Whole bs a) from rivals h = subst (λ l. does b (Writes l place (Whole bs a) from rivals) w ≡ plain_doing b (Writes l place (Whole bs a) from rivals) w) (sym h.1) (writes b w h.0 place (Whole bs a) from rivals h.2 h.3 (subst (λ q. IsOfType (layouts b.unit) q (Whole bs a)) h.4 h.6.0) tt (known (PointerTo h.0) place h.5) (known t (Whole bs a) h.6))
 
-  pub promised : (o : Op) (t : Ty) → Promised b os w o t → does b o w ≡ plainly b o w
+  pub promised : (o : Op) (t : Ty) → Promised b os w o t → does b o w ≡ plain_doing b o w
   promised (Converts how v) t h = converts b w how h.0 v h.1.0 (known h.0 v h.1)
   promised (Calculates o k v x) t h = calculates b w o h.0 k h.1 v x h.2 h.3 h.4 h.5.0 h.6.0
   promised (CalculatesOne o k v) t h = calculates-one b w o k v h.0 h.1.0
@@ -39,8 +39,8 @@ module _ (b : Setting) (os : List ℕ) (w : World) where
   promised (Equals negated v x) t h = equals b w negated v x (known (PointerTo h.0) v h.2) (known (PointerTo h.1) x h.3)
   promised (Follows nothing v) t h = refl
   promised (Selects offset v) t h = selects b w offset v (known (PointerTo h.0) v h.2)
-  promised (TakesPart offset l v) t h = subst (λ l. does b (TakesPart offset l v) w ≡ plainly b (TakesPart offset l v) w) (sym h.5) (takes-part b w offset t h.0 v h.3 h.2 h.6 h.1.0 (known h.0 v h.1))
-  promised (Reads l place rivals) t h = subst (λ l. does b (Reads l place rivals) w ≡ plainly b (Reads l place rivals) w) (sym h.1) (reads b w h.0 place rivals h.2 (known (PointerTo h.0) place h.5))
+  promised (TakesPart offset l v) t h = subst (λ l. does b (TakesPart offset l v) w ≡ plain_doing b (TakesPart offset l v) w) (sym h.5) (takes-part b w offset t h.0 v h.3 h.2 h.6 h.1.0 (known h.0 v h.1))
+  promised (Reads l place rivals) t h = subst (λ l. does b (Reads l place rivals) w ≡ plain_doing b (Reads l place rivals) w) (sym h.1) (reads b w h.0 place rivals h.2 (known (PointerTo h.0) place h.5))
   promised (Writes l place v from rivals) t h = writes-to l t place v from rivals h
   promised (NamesObject o) t h = refl
   promised (NamesLiteral l) t h = refl

@@ -7,7 +7,7 @@ use Rattle.std.specs.Ordering.{nat_cmp}
 use Rattle.std.proofs.lemmas.Option.{none-some}
 use Rattle.pv_script.specs.Lines.{ScriptLine}
 use Rattle.pv_types.specs.Ty.{Ty, NoTys, PointerTo}
-use Rattle.pv_types.specs.Sorts.{bare}
+use Rattle.pv_types.specs.Sorts.{bare_type}
 use Rattle.pv_inst.specs.declared.values.Instance.{Instance}
 use Rattle.pv_inst.specs.declared.values.CreateError.{CreateError}
 use Rattle.pv_inst.specs.Infos.{base_of}
@@ -15,10 +15,10 @@ use Rattle.pv_inst.specs.Table.{Table, instance_at, IsNumber}
 use Rattle.pv_inst.specs.Placing.{Request, place}
 use Rattle.pv_inst.proofs.Apartness.{same_or_not}
 use Rattle.pv_shadow.specs.declared.byte.Byte.{Byte}
-use Rattle.pv_shadow.specs.Whole.{plain as plain_bytes}
+use Rattle.pv_shadow.specs.Whole.{number_bytes as plain_bytes}
 use Rattle.pv_inst.specs.Use.{is_heap, is_function}
 use Rattle.pv_object.specs.Memory.{Mem}
-use Rattle.pv_object.specs.Creating.{made}
+use Rattle.pv_object.specs.Creating.{with_new_bytes}
 use Rattle.pv_object.proofs.Born.{IsBorn}
 use Rattle.pv_script.specs.Names.{name_at as text_of}
 use Rattle.pv_typed.specs.declared.values.Const.{Const}
@@ -32,7 +32,7 @@ use Rattle.pv_world.specs.Accesses.{stored_as}
 use Rattle.pv_world.specs.Objects.{put_at, instance_of, literal_of, function_of, base_in, makes_object, owner_of, owning, function_request}
 use Rattle.pv_world.specs.ObjectParts.{filling, object_made, literal_made, literal_request, function_made}
 use Rattle.pv_eval.specs.States.{Setting, State, Res, Gives}
-use Rattle.pv_eval.specs.Acting.{sided}
+use Rattle.pv_eval.specs.Acting.{with_side}
 use Rattle.pv_eval.specs.ActingParts.{one_kept, keeps_both}
 use Rattle.pv_eval.specs.TypeForms.{lvalue, size_of}
 use Rattle.pv_eval.specs.Constants.{constant_worth, place_by}
@@ -42,7 +42,7 @@ use Rattle.pv_exec.specs.Laying.{IsLaidOut}
 use Rattle.pv_exec.specs.Calls.{below}
 use Rattle.pv_exec.specs.Preparing.{make_static, store_constant, store_static, prepare}
 use Rattle.pv_exec.specs.Lists.{make_statics, make_literals, make_functions, store_statics, initialize_statics}
-use Rattle.pv_exec.specs.Run.{first, call_main, run_of}
+use Rattle.pv_exec.specs.Run.{initial_state, call_main, run_of}
 use Rattle.pv_exec.proofs.Memory.Rows.{Leads as Led}
 use Rattle.pv_exec.proofs.Memory.Tables.{place-leads}
 use Rattle.pv_exec.proofs.Memory.Runs.{first-sound}
@@ -107,7 +107,7 @@ module _ (b : Setting) (ss ls fs : List ℕ) where
   side-if true w k high l h = ready-table w (one_kept w k high).memory.table l (same-live w.memory.table (one_kept w k high).memory.table refl) h
   side-if false w k high l h = h
 
-  ready-sided : (v : Worth) (w : World) (k : ℕ) (high : Bool) → Ready b ss ls fs w → Ready b ss ls fs (sided w k high)
+  ready-sided : (v : Worth) (w : World) (k : ℕ) (high : Bool) → Ready b ss ls fs w → Ready b ss ls fs (with_side w k high)
   ready-sided v w k high h = let c = keeps_both (twin_at w.memory.table.pairs k) in side-if c w k high (kept-if c w k high refl) h
 
   -- other bytes
@@ -145,7 +145,7 @@ module _ (b : Setting) (ss ls fs : List ℕ) where
         let n = size_of b (object_at b.unit o).t in
         does-sure b StillReady ready-sided line (Fills o v) s (fills-same b w o home v m.small) (ready-bytes w base (replicate n (filling v)) (all-fair-of T n (filling v) (filling-fair-of T v f)) h)
 
-    puts-ready : (offset : ℕ) (t : Ty) (v : Worth) → offset + size_of b t ≤ size_of b (object_at b.unit o).t → IsValueType (bare t) → Value b w (bare t) v → IsThere v
+    puts-ready : (offset : ℕ) (t : Ty) (v : Worth) → offset + size_of b t ≤ size_of b (object_at b.unit o).t → IsValueType (bare_type t) → Value b w (bare_type t) v → IsThere v
         → Sure StillReady (act b line (Puts o offset (lvalue b t) v) s) (act_plainly b line (Puts o offset (lvalue b t) v) s)
     puts-ready offset t v lies valued f there =
         let l = lvalue b t in
@@ -211,10 +211,10 @@ module _ (b : Setting) (unit : IsTypedUnit b.unit) where
           by (inr (k, f)) (inr (l, g)) = h.apart q r k l (sym f ∙ e ∙ g)
 
     static-made : (o name : ℕ) (r : Request) (w : World) (got : Result ℕ CreateError × Table) → place w.memory.table r ≡ got → Led ⊥ w.memory.table got.1 → AllLiveStill w.memory.table got.1
-        → r.size ≡ size_of b (object_at b.unit o).t → is_heap r.kind ≡ false → is_function r.kind ≡ false → ((i : ℕ) → got.0 ≡ Ok i → IsNext w.memory.table r i got.1) → Ready b ss ls fs w → Answering (λ v z. Ready b (o ∷ ss) ls fs z) (object_made w o true name (made w.memory got))
+        → r.size ≡ size_of b (object_at b.unit o).t → is_heap r.kind ≡ false → is_function r.kind ≡ false → ((i : ℕ) → got.0 ≡ Ok i → IsNext w.memory.table r i got.1) → Ready b ss ls fs w → Answering (λ v z. Ready b (o ∷ ss) ls fs z) (object_made w o true name (with_new_bytes w.memory got))
     static-made o name r w (Ok i, U) e l a large object stored next h =
         let T = w.memory.table in
-        let M = (made w.memory (Ok i, U)).1 in
+        let M = (with_new_bytes w.memory (Ok i, U)).1 in
         let new = placed-new T r (Ok i, U) e i refl in
         let n = next i refl in
         let home : IsHome U i (size_of b (object_at b.unit o).t) = subst (λ k. IsHome U i k) large (next-home T U r i object n) in
@@ -240,9 +240,9 @@ module _ (b : Setting) (unit : IsTypedUnit b.unit) where
         (subst (λ c. Answering (λ v z. Ready b (o ∷ ss) ls fs z) (makes_object o c r w)) (sym m.storage)
         (static-made o r.name r w (place T r) refl (place-leads T r (λ y. absurd y)) (place-live T r refl) refl refl refl (next-made T r) h))
 
-    literal-made : (l : ℕ) (bytes : List ℕ) (r : Request) (w : World) (got : Result ℕ CreateError × Table) → place w.memory.table r ≡ got → Led ⊥ w.memory.table got.1 → AllLiveStill w.memory.table got.1 → is_function r.kind ≡ false → ((i : ℕ) → got.0 ≡ Ok i → IsNext w.memory.table r i got.1) → Each (λ (v : ℕ). v < 256) bytes → Ready b ss ls fs w → Answering (λ v z. Ready b ss (l ∷ ls) fs z) (literal_made w l bytes (made w.memory got))
+    literal-made : (l : ℕ) (bytes : List ℕ) (r : Request) (w : World) (got : Result ℕ CreateError × Table) → place w.memory.table r ≡ got → Led ⊥ w.memory.table got.1 → AllLiveStill w.memory.table got.1 → is_function r.kind ≡ false → ((i : ℕ) → got.0 ≡ Ok i → IsNext w.memory.table r i got.1) → Each (λ (v : ℕ). v < 256) bytes → Ready b ss ls fs w → Answering (λ v z. Ready b ss (l ∷ ls) fs z) (literal_made w l bytes (with_new_bytes w.memory got))
     literal-made l bytes r w (Ok i, U) e k a stored next f h =
-        let M = (made w.memory (Ok i, U)).1 in
+        let M = (with_new_bytes w.memory (Ok i, U)).1 in
         let n = next i refl in
         let N : ℕ → Type 0 = λ i. IsNumber U.instances i in
         record {
@@ -288,10 +288,10 @@ module _ (b : Setting) (unit : IsTypedUnit b.unit) where
           by (inl s) = subst (λ k. HasBody b.unit k) (same-function (sym (owner-next w M i (Some f) (length w.memory.table.instances) number h.owned) ∙ ap (owner_of (owning w M i (Some f))) (sym s) ∙ e)) body
           by (inr d) = h.code j g (subst IsCodeIn (new.others j d) c) (sym (owner-other w M i (Some f) (length w.memory.table.instances) number h.owned j d) ∙ e)
 
-    function-placed : (f name : ℕ) (r : Request) (w : World) (got : Result ℕ CreateError × Table) → HasBody b.unit f → place w.memory.table r ≡ got → Led ⊥ w.memory.table got.1 → ((i : ℕ) → got.0 ≡ Ok i → IsNext w.memory.table r i got.1) → Ready b ss ls fs w → Answering (λ v z. Ready b ss ls (f ∷ fs) z) (function_made w f name (made w.memory got))
+    function-placed : (f name : ℕ) (r : Request) (w : World) (got : Result ℕ CreateError × Table) → HasBody b.unit f → place w.memory.table r ≡ got → Led ⊥ w.memory.table got.1 → ((i : ℕ) → got.0 ≡ Ok i → IsNext w.memory.table r i got.1) → Ready b ss ls fs w → Answering (λ v z. Ready b ss ls (f ∷ fs) z) (function_made w f name (with_new_bytes w.memory got))
     function-placed f name r w (Ok i, U) body e k next h =
         let N : ℕ → Type 0 = λ i. IsNumber U.instances i in
-        let M = (made w.memory (Ok i, U)).1 in
+        let M = (with_new_bytes w.memory (Ok i, U)).1 in
         let n = next i refl in
         let new = placed-born w.memory.table r (Ok i, U) e i refl in
         record {
@@ -406,8 +406,8 @@ module _ (b : Setting) (unit : IsTypedUnit b.unit) where
     static-sure x (ValueOf e) lies (c, is, placed, typed) s h =
         let w = s.world in
         subst (λ q. Sure (λ v z. All z) (store_constant b o x q s) (plainly.store_constant b o x q s)) (sym is)
-        (puts-ready b b.unit.statics b.unit.instances b.unit.placed x.line o s (unit.statics o among) among h x.offset x.t (constant_worth w c) lies (constant-valued c (bare x.t) typed)
-        (constant-typed w c (bare x.t) typed, constant-fair w c h placed) (constant-there w c))
+        (puts-ready b b.unit.statics b.unit.instances b.unit.placed x.line o s (unit.statics o among) among h x.offset x.t (constant_worth w c) lies (constant-valued c (bare_type x.t) typed)
+        (constant-typed w c (bare_type x.t) typed, constant-fair w c h placed) (constant-there w c))
     static-sure x (TextOf l) lies m s h =
         text-ready b b.unit.statics b.unit.instances b.unit.placed x.line o s (unit.statics o among) among h x.offset (size_of b x.t) l lies (unit.characters l)
 
@@ -476,9 +476,9 @@ module _ (b : Setting) (unit : IsTypedUnit b.unit) where
       by true h = h
       by false h = h
 
-  first-ready : (script : List ScriptLine) → Ready b [] [] [] (first script b.zap).world
+  first-ready : (script : List ScriptLine) → Ready b [] [] [] (initial_state script b.zap).world
   first-ready script = record {
-    laid = sound-laid ⊥ (first script b.zap).world.memory.table (first-sound ⊥ script b.zap);
+    laid = sound-laid ⊥ (initial_state script b.zap).world.memory.table (first-sound ⊥ script b.zap);
     bytes = λ a x e. absurd (none-some x (sym (get-empty nat_cmp a) ∙ e));
     statics = λ o g. absurd g;
     apart = λ o q g k e. absurd g;
@@ -491,7 +491,7 @@ module _ (b : Setting) (unit : IsTypedUnit b.unit) where
   run-sure : (script : List ScriptLine) → Sure (λ v z. IsGiven (main_of b.unit) v) (run_of b script) (plainly.run_of b script)
   unfolding run_of plainly.run_of
   run-sure script =
-      sure-seq (λ v z. All z) (λ v z. IsGiven (main_of b.unit) v) (prepare b (first script b.zap)) (plainly.prepare b (first script b.zap)) _ _ (prepare-sure (first script b.zap) (first-ready script)) (λ v t k. main-sure (main_of b.unit) refl t k)
+      sure-seq (λ v z. All z) (λ v z. IsGiven (main_of b.unit) v) (prepare b (initial_state script b.zap)) (plainly.prepare b (initial_state script b.zap)) _ _ (prepare-sure (initial_state script b.zap) (first-ready script)) (λ v t k. main-sure (main_of b.unit) refl t k)
 
   pub run-same : (script : List ScriptLine) → run_of b script ≡ plainly.run_of b script
   run-same script = (run-sure script).0

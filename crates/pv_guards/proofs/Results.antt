@@ -9,7 +9,7 @@ use Rattle.pv_num.specs.Arithmetic.{IsPromoted, yielded_kind, binary_of, unary_o
 use Rattle.pv_num.proofs.Members.{binary_fits, unary_fits}
 use Rattle.pv_object.specs.declared.values.Scalar.TheVariants as scalar
 use Rattle.pv_world.specs.Worlds.{Worth, World, Wrong}
-use Rattle.pv_world.specs.Worths.{int_of, unplain, unless, computed}
+use Rattle.pv_world.specs.Worths.{int_of, why_not_set, unless, arithmetic_result}
 use Rattle.pv_world.specs.CalculationParts.{calculates, calculates_one}
 use Rattle.pv_world.specs.Doing.{Done, Answers, Fails, Breaks}
 use Rattle.pv_guards.specs.Worths.{IsScalar}
@@ -35,15 +35,15 @@ answers-more P Q f (Breaks y p z t) h = tt
 abbrev pub GivesKind : World → IntKind → Worth → World → Type 0
 GivesKind w k v z = IsScalar (scalar.Int k) v × (z ≡ w)
 
-computed-answers : (k : IntKind) (w : World) (r : Result ℤ ArithmeticFault) → IfOk r (Fits k) → Answering (GivesKind w k) (computed w r)
+computed-answers : (k : IntKind) (w : World) (r : Result ℤ ArithmeticFault) → IfOk r (Fits k) → Answering (GivesKind w k) (arithmetic_result w r)
 computed-answers k w (Ok n) h = (h, refl)
 computed-answers k w (Err f) h = tt
 
 pub calculates-gives : (o : BinOp) (j k : IntKind) (v x : Worth) (w : World) → IsPromoted k → Widens j k → IsScalar (scalar.Int j) v → Answering (GivesKind w (yielded_kind o k)) (calculates o k v x w)
 calculates-gives o j k v x w p wide h =
-    unless-answers (GivesKind w (yielded_kind o k)) (unplain v) w _
-    (unless-answers (GivesKind w (yielded_kind o k)) (unplain x) w _
+    unless-answers (GivesKind w (yielded_kind o k)) (why_not_set v) w _
+    (unless-answers (GivesKind w (yielded_kind o k)) (why_not_set x) w _
     (computed-answers (yielded_kind o k) w (binary_of o k (int_of v) (int_of x)) (binary_fits o k (int_of v) (int_of x) p (wide (int_of v) (number-fits j v h)))))
 
 pub one-gives : (o : UnOp) (k : IntKind) (v : Worth) (w : World) → IsPromoted k → IsScalar (scalar.Int k) v → Answering (GivesKind w k) (calculates_one o k v w)
-one-gives o k v w p h = unless-answers (GivesKind w k) (unplain v) w _ (computed-answers k w (unary_of o k (int_of v)) (unary_fits o k (int_of v) p (number-fits k v h)))
+one-gives o k v w p h = unless-answers (GivesKind w k) (why_not_set v) w _ (computed-answers k w (unary_of o k (int_of v)) (unary_fits o k (int_of v) p (number-fits k v h)))

@@ -5,7 +5,7 @@ use Rattle.std.specs.Bool.{beq}
 use Rattle.std.proofs.lemmas.Bool.{ltb-true, eqb-true}
 use Rattle.pv_num.specs.declared.kinds.IntKind.{IntKind}
 use Rattle.pv_types.specs.Ty.{Ty, Tys, NoTys, MoreTys, VoidTy, IntTy, PointerTo, ArrayOf, StructTag, UnionTag, FunctionTy, ConstOf}
-use Rattle.pv_types.specs.Compatible.{FunctionForm, same_kind, with_const, is_constant, form_of, forms_of, alike, all_alike, are_compatible}
+use Rattle.pv_types.specs.Compatible.{FunctionForm, same_kind, with_const, is_constant, form_of, forms_of, same_form, all_alike, are_compatible}
 use Rattle.pv_typed.specs.TypedUnits.{function_at}
 use Rattle.pv_eval.specs.States.{Setting}
 use Rattle.pv_eval.specs.Callees.{may_call}
@@ -29,7 +29,7 @@ same-like : (t u : Ty) → t ≡ u → AreLike t u
 same-like t u e = subst (λ x. AreLike t x) e (λ env v. ((λ h. h), (λ h. h)))
 
 -- compatible types have the same values
-pub like-alike : (q p : _) (t u : Ty) → alike (form_of q t) (form_of p u) ≡ true → AreLike t u
+pub like-alike : (q p : _) (t u : Ty) → same_form (form_of q t) (form_of p u) ≡ true → AreLike t u
 like-alike q p VoidTy VoidTy e = λ env v. ((λ h. h), (λ h. h))
 like-alike q p VoidTy (IntTy k2) e = absurd cc
 like-alike q p VoidTy (PointerTo a2) e = absurd cc
@@ -99,7 +99,7 @@ all-like (MoreTys t ts) (MoreTys u us) e =
     (turned t u (like-alike _ _ t u (left-of _ (all_alike (forms_of ts) (forms_of us)) e)), all-like ts us (right-of _ (all_alike (forms_of ts) (forms_of us)) e))
 
 -- a function type has no qualifier of its own
-no-constant : (q p : _) (t r : Ty) (ts : Tys) (v : Bool) → is_constant q ≡ true → with_const q ≡ q → alike (form_of q t) (FunctionForm false (form_of p r) (forms_of ts) v) ≡ true → ⊥
+no-constant : (q p : _) (t r : Ty) (ts : Tys) (v : Bool) → is_constant q ≡ true → with_const q ≡ q → same_form (form_of q t) (FunctionForm false (form_of p r) (forms_of ts) v) ≡ true → ⊥
 no-constant q p VoidTy r ts v h k e = absurd cc
 no-constant q p (IntTy j) r ts v h k e = absurd cc
 no-constant q p (PointerTo a) r ts v h k e = absurd cc
@@ -110,14 +110,14 @@ no-constant q p (FunctionTy a us c) r ts v h k e =
     let f = left-of (beq (is_constant q) false) (beq c v) (left-of (beq (is_constant q) false && beq c v) _ e) in
     let g : beq true false ≡ true = subst (λ x. beq x false ≡ true) h f in
     absurd cc
-no-constant q p (ConstOf a) r ts v h k e = no-constant q p a r ts v h k (subst (λ x. alike (form_of x a) (FunctionForm false (form_of p r) (forms_of ts) v) ≡ true) k e)
+no-constant q p (ConstOf a) r ts v h k e = no-constant q p a r ts v h k (subst (λ x. same_form (form_of x a) (FunctionForm false (form_of p r) (forms_of ts) v) ≡ true) k e)
 
 -- a function type that has `...` where the type has it
 abbrev IsSigned : Bool → Ty → Ty → Tys → Type 0
 IsSigned false t r ts = IsSignature t r ts
 IsSigned true t r ts = (a : Ty) × (us : Tys) × (t ≡ FunctionTy a us true)
 
-signed : (q p : _) (t r : Ty) (ts : Tys) (v : Bool) → is_constant (with_const q) ≡ true → with_const (with_const q) ≡ with_const q → alike (form_of q t) (FunctionForm false (form_of p r) (forms_of ts) v) ≡ true → IsSigned v t r ts
+signed : (q p : _) (t r : Ty) (ts : Tys) (v : Bool) → is_constant (with_const q) ≡ true → with_const (with_const q) ≡ with_const q → same_form (form_of q t) (FunctionForm false (form_of p r) (forms_of ts) v) ≡ true → IsSigned v t r ts
 signed q p VoidTy r ts v h k e = absurd cc
 signed q p (IntTy j) r ts v h k e = absurd cc
 signed q p (PointerTo a) r ts v h k e = absurd cc

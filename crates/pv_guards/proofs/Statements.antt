@@ -6,7 +6,7 @@ use Rattle.std.proofs.lemmas.Option.{none-some}
 use Rattle.pv_num.specs.declared.kinds.IntKind.TheVariants.{Int}
 use Rattle.pv_types.specs.Ty.{Ty, VoidTy, IntTy, PointerTo, ArrayOf, StructTag, UnionTag, FunctionTy, ConstOf}
 use Rattle.pv_types.specs.Layouts.{Entry}
-use Rattle.pv_types.specs.Sorts.{bare, is_void as is_none}
+use Rattle.pv_types.specs.Sorts.{bare_type, is_void as is_none}
 use Rattle.pv_typed.specs.Known.{Each}
 use Rattle.pv_typed.specs.TypedTree.{TypedTree, line_of}
 use Rattle.pv_typed.specs.TypedStatement.{TypedStatement, Block, Declare, Expression, Empty, If, IfElse, Switch, Case, Default, While, DoWhile, For, ForDeclaration, Continue, Break, Return, Statements, NoStatements, MoreStatements}
@@ -16,11 +16,11 @@ use Rattle.pv_world.specs.Worths.{is_true, int_of}
 use Rattle.pv_eval.specs.States.{Setting, State, Res, Gives, then_do, tick, spend}
 use Rattle.pv_eval.specs.TypeForms.{lvalue, size_of}
 use Rattle.pv_eval.specs.Sequenced.{Given}
-use Rattle.pv_eval.specs.Steps.{converted, handed}
+use Rattle.pv_eval.specs.Steps.{with_conversion, accepted_value}
 use Rattle.pv_eval.specs.Evaluation.{ev}
 use Rattle.pv_eval.specs.Operations.{Op, Tests, Accepts, Needs, Makes, Ends, Fills, Puts, PutsText, act}
-use Rattle.pv_exec.specs.Flows.{Flow, Falls, Breaks, Continues, Returns, Below, full, nothing_done, testing, falls, goes_on, switched, stores_value, begin_fill, declares, if_tested, stepped, round, round_do, returns_value}
-use Rattle.pv_exec.specs.Blocks.{end_all, scoped}
+use Rattle.pv_exec.specs.Flows.{Flow, Falls, Breaks, Continues, Returns, Below, full_expression, nothing_done, testing, falls, goes_on, behind_switch, stores_value, begin_fill, declares, if_tested, then_step, round, round_do, returns_value}
+use Rattle.pv_exec.specs.Blocks.{end_all, in_block}
 use Rattle.pv_exec.specs.Lists.{make_all, store_all}
 use Rattle.pv_exec.specs.Labels.{Target, ToCase, ToDefault, ToNone, target_of, is_target, unless_none}
 use Rattle.pv_exec.specs.LabelParts.{some_case, some_default}
@@ -47,7 +47,7 @@ use Rattle.pv_guards.proofs.Sure.{Sure, sure-seq, sure-more, sure-if, sure-tick,
 use Rattle.pv_guards.proofs.Objects.{Within, later-after, sound-less, own-after, in-scope, fills-holds, puts-holds, text-holds, makes-sure, ends-sure}
 
 -- values of types, qualifiers aside
-pub from-bare : (env : List Entry) (t : Ty) (v : Worth) → IsOfType env (bare t) v → IsOfType env t v
+pub from-bare : (env : List Entry) (t : Ty) (v : Worth) → IsOfType env (bare_type t) v → IsOfType env t v
 from-bare env (ConstOf t) v h = from-bare env t v h
 from-bare env VoidTy v h = h
 from-bare env (IntTy k) v h = h
@@ -57,7 +57,7 @@ from-bare env (StructTag n) v h = h
 from-bare env (UnionTag n) v h = h
 from-bare env (FunctionTy t ts c) v h = h
 
-pub to-bare : (env : List Entry) (t : Ty) (v : Worth) → IsOfType env t v → IsOfType env (bare t) v
+pub to-bare : (env : List Entry) (t : Ty) (v : Worth) → IsOfType env t v → IsOfType env (bare_type t) v
 to-bare env (ConstOf t) v h = to-bare env t v h
 to-bare env VoidTy v h = h
 to-bare env (IntTy k) v h = h
@@ -193,7 +193,7 @@ module _ (b : Setting) (rest : List Bindings) (w0 : World) where
       (ends-sure b (ds ++ os) rest w0 line d s m.0 n.0 h) (λ v t k.
       sure-more _ (λ v z. Inv os z × Keeps s.world.memory.table z.memory.table) (end_all b ds t) (plain.end_all b ds t) (λ v z q. (q.0, λ p g. q.1 p (k.1 p g))) (end-sure os ds m.1 n.1 t k.0))
 
-  scoped-sure : (r : Ty) (os ds : List ℕ) (m m' : State → Res Flow) → Each (IsMakeable b.unit false) ds → AreNew ds os → ((s : State) → Inv (ds ++ os) s.world → Sure (E r (ds ++ os)) (m s) (m' s)) → (s : State) → Inv os s.world → Sure (E r os) (scoped b ds m s) (plain.scoped b ds m' s)
+  scoped-sure : (r : Ty) (os ds : List ℕ) (m m' : State → Res Flow) → Each (IsMakeable b.unit false) ds → AreNew ds os → ((s : State) → Inv (ds ++ os) s.world → Sure (E r (ds ++ os)) (m s) (m' s)) → (s : State) → Inv os s.world → Sure (E r os) (in_block b ds m s) (plain.in_block b ds m' s)
   scoped-sure r os ds m m' h new g s i =
       sure-seq (λ v z. Inv (ds ++ os) z) (E r os) (make_all b ds s) (lists.make_all b ds s) _ _ (make-sure os ds h s i) (λ v t k.
       sure-seq (E r (ds ++ os)) (E r os) (m t) (m' t) _ _ (g t k) (λ fl y q.
@@ -212,7 +212,7 @@ module _ (b : Setting) (rest : List Bindings) (w0 : World) where
   going r os Breaks m m' h s i = (refl, (i.0, tt))
   going r os (Returns v) m m' h s i = (refl, i)
 
-  switching : (r : Ty) (os : List ℕ) (fl : Flow) (s : State) → E r os fl s.world → Sure (E r os) (switched fl s) (switched fl s)
+  switching : (r : Ty) (os : List ℕ) (fl : Flow) (s : State) → E r os fl s.world → Sure (E r os) (behind_switch fl s) (behind_switch fl s)
   switching r os Falls s i = (refl, (i.0, tt))
   switching r os Breaks s i = (refl, (i.0, tt))
   switching r os Continues s i = (refl, i)
@@ -244,7 +244,7 @@ module _ (b : Setting) (rest : List Bindings) (w0 : World) where
   not-so R true r r' q q' e h = absurd cc
 
   module _ (characters : (l : ℕ) → Each (λ (v : ℕ). v < 256) (literal_at b.unit l).bytes) (u u' : Below) (level : Level b u u') where
-    full-sure : (os : List ℕ) (x : TypedTree) → IsTyped b.unit os x → (s : State) → Inv os s.world → Sure (Kept os s.world (λ v z. Value b z (given_type x) v)) (full b u.call x s) (plain.full b u'.call x s)
+    full-sure : (os : List ℕ) (x : TypedTree) → IsTyped b.unit os x → (s : State) → Inv os s.world → Sure (Kept os s.world (λ v z. Value b z (given_type x) v)) (full_expression b u.call x s) (plain.full_expression b u'.call x s)
     full-sure os x h s i =
         let p = typed b os u.call u'.call (level.call os) x h [] s i.sound in
         sure-seq (Kept os s.world (λ (g : Given) z. Value b z (given_type x) g.value)) (Kept os s.world (λ v z. Value b z (given_type x) v)) (ev b u.call x [] s) (expressions.ev b u'.call x [] s) _ _
@@ -253,13 +253,13 @@ module _ (b : Setting) (rest : List Bindings) (w0 : World) where
 
     testing-sure : (os : List ℕ) (x : TypedTree) → IsCondition b.unit os x → (s : State) → Inv os s.world → Sure (λ v z. Inv os z) (testing b u.call x s) (plain.testing b u'.call x s)
     testing-sure os x h s i =
-        sure-seq (Kept os s.world (λ v z. Value b z (given_type x) v)) (λ v z. Inv os z) (full b u.call x s) (plain.full b u'.call x s) _ _ (full-sure os x h.0 s i) (λ v t k.
+        sure-seq (Kept os s.world (λ v z. Value b z (given_type x) v)) (λ v z. Inv os z) (full_expression b u.call x s) (plain.full_expression b u'.call x s) _ _ (full-sure os x h.0 s i) (λ v t k.
         sure-more (Kept os t.world (λ v z. Value b z (IntTy Int) v)) (λ v z. Inv os z) (act b (line_of x) (Tests v) t) (act_plainly b (line_of x) (Tests v) t) (λ v z q. q.1) (act-sure os (line_of x) (Tests v) (IntTy Int) t k.1 (given_type x, k.2, refl)))
 
-    stepped-sure : (r : Ty) (os : List ℕ) (x : Option TypedTree) (m m' : State → Res Flow) → MayBeTyped b.unit os x → ((s : State) → Inv os s.world → Sure (E r os) (m s) (m' s)) → (s : State) → Inv os s.world → Sure (E r os) (stepped b u.call x m s) (plain.stepped b u'.call x m' s)
+    stepped-sure : (r : Ty) (os : List ℕ) (x : Option TypedTree) (m m' : State → Res Flow) → MayBeTyped b.unit os x → ((s : State) → Inv os s.world → Sure (E r os) (m s) (m' s)) → (s : State) → Inv os s.world → Sure (E r os) (then_step b u.call x m s) (plain.then_step b u'.call x m' s)
     stepped-sure r os None m m' h g s i = g s i
     stepped-sure r os (Some x) m m' h g s i =
-        sure-seq (Kept os s.world (λ v z. Value b z (given_type x) v)) (E r os) (full b u.call x s) (plain.full b u'.call x s) _ _ (full-sure os x h s i) (λ v t k. g t k.1)
+        sure-seq (Kept os s.world (λ v z. Value b z (given_type x) v)) (E r os) (full_expression b u.call x s) (plain.full_expression b u'.call x s) _ _ (full-sure os x h s i) (λ v t k. g t k.1)
 
     tested-sure : (r : Ty) (os : List ℕ) (x : Option TypedTree) (m m' : State → Res Flow) → MayBeCondition b.unit os x → ((s : State) → Inv os s.world → Sure (E r os) (m s) (m' s)) → (s : State) → Inv os s.world → Sure (E r os) (if_tested b u.call x m s) (plain.if_tested b u'.call x m' s)
     tested-sure r os None m m' h g s i = g s i
@@ -270,7 +270,7 @@ module _ (b : Setting) (rest : List Bindings) (w0 : World) where
         → (s : State) → Inv os s.world → Sure (E r os) (round b u.call c step m n s) (plain.round b u'.call c step m' n' s)
     round-sure r os c step m m' n n' hc hs g f s i =
         tested-sure r os c _ _ hc (λ t k.
-        sure-seq (E r os) (E r os) (m t) (m' t) _ _ (g t k) (λ fl y q. going r os fl (stepped b u.call step n) (plain.stepped b u'.call step n') (stepped-sure r os step n n' hs f) y q)) s i
+        sure-seq (E r os) (E r os) (m t) (m' t) _ _ (g t k) (λ fl y q. going r os fl (then_step b u.call step n) (plain.then_step b u'.call step n') (stepped-sure r os step n n' hs f) y q)) s i
 
     pub round_do-sure : (r : Ty) (os : List ℕ) (c : TypedTree) (m m' n n' : State → Res Flow) → IsCondition b.unit os c → ((s : State) → Inv os s.world → Sure (E r os) (m s) (m' s)) → ((s : State) → Inv os s.world → Sure (E r os) (n s) (n' s))
         → (s : State) → Inv os s.world → Sure (E r os) (round_do b u.call c m n s) (plain.round_do b u'.call c m' n' s)
@@ -278,8 +278,8 @@ module _ (b : Setting) (rest : List Bindings) (w0 : World) where
         sure-seq (E r os) (E r os) (m s) (m' s) _ _ (g s i) (λ fl y q. going r os fl (if_tested b u.call (Some c) n) (plain.if_tested b u'.call (Some c) n') (tested-sure r os (Some c) n n' hc f) y q)
 
     -- 6.7.9: stores of an initializer
-    converted-sure : (os : List ℕ) (x : TypedTree) (t : Ty) (v : Worth) (s : State) → IsTyped b.unit os x → HasType x t → Value b s.world (given_type x) v → Inv os s.world → Sure (Kept os s.world (λ v z. Value b z t v)) (converted b x v s) (plainly.converted b x v s)
-    converted-sure os x t v s h e g i = piece os (λ v z. Value b z t v) (converted b x v) (plainly.converted b x v) s i (converted-way b os (asked b os) x t s.world v h e g)
+    converted-sure : (os : List ℕ) (x : TypedTree) (t : Ty) (v : Worth) (s : State) → IsTyped b.unit os x → HasType x t → Value b s.world (given_type x) v → Inv os s.world → Sure (Kept os s.world (λ v z. Value b z t v)) (with_conversion b x v s) (plainly.with_conversion b x v s)
+    converted-sure os x t v s h e g i = piece os (λ v z. Value b z t v) (with_conversion b x v) (plainly.with_conversion b x v) s i (converted-way b os (asked b os) x t s.world v h e g)
 
     accept-sure : (os : List ℕ) (line : ℕ) (t : Ty) (v : Worth) (s : State) → Value b s.world t v → Inv os s.world → Sure (Kept os s.world (λ v z. Value b z t v × IsThere v)) (act b line (Accepts v) s) (act_plainly b line (Accepts v) s)
     accept-sure os line t v s g i = piece os (λ v z. Value b z t v × IsThere v) (act b line (Accepts v)) (act_plainly b line (Accepts v)) s i (acting.accepts-way b os line t v s.world g)
@@ -287,12 +287,12 @@ module _ (b : Setting) (rest : List Bindings) (w0 : World) where
     value-sure : (os : List ℕ) (o : ℕ) (x : Store) (v : StoredValue) → IsIn o os → IsMakeable b.unit false o → LiesIn b.unit o x → IsInitializer b.unit os x.t v → (s : State) → Inv os s.world → Sure (λ v z. Inv os z) (stores_value b u.call o x v s) (plain.stores_value b u'.call o x v s)
     value-sure os o x (ValueOf e) among m lies h s i =
         sure-tick b (λ v z. Inv os z) s
-        (λ s. then_do (full b u.call e s) (λ v s. then_do (handed b e v s) (λ v s. act b x.line (Puts o x.offset (lvalue b x.t) v) s)))
-        (λ s. then_do (plain.full b u'.call e s) (λ v s. then_do (plainly.handed b e v s) (λ v s. act_plainly b x.line (Puts o x.offset (lvalue b x.t) v) s)))
-        (sure-seq (Kept os s.world (λ v z. Value b z (given_type e) v)) (λ v z. Inv os z) (full b u.call e (spend s)) (plain.full b u'.call e (spend s)) _ _ (full-sure os e h.0 (spend s) i) (λ v t k.
-        sure-seq (Kept os t.world (λ v z. Value b z (bare x.t) v × IsThere v)) (λ v z. Inv os z) (handed b e v t) (plainly.handed b e v t) _ _
-        (sure-seq (Kept os t.world (λ v z. Value b z (bare x.t) v)) (Kept os t.world (λ v z. Value b z (bare x.t) v × IsThere v)) (converted b e v t) (plainly.converted b e v t) _ _ (converted-sure os e (bare x.t) v t h.0 h.1 k.2 k.1) (λ v y q.
-        sure-more _ (Kept os t.world (λ v z. Value b z (bare x.t) v × IsThere v)) (act b (line_of e) (Accepts v) y) (act_plainly b (line_of e) (Accepts v) y) (λ v z p. (after-both q.0 p.0, p.1, p.2)) (accept-sure os (line_of e) (bare x.t) v y q.2 q.1))) (λ v y q.
+        (λ s. then_do (full_expression b u.call e s) (λ v s. then_do (accepted_value b e v s) (λ v s. act b x.line (Puts o x.offset (lvalue b x.t) v) s)))
+        (λ s. then_do (plain.full_expression b u'.call e s) (λ v s. then_do (plainly.accepted_value b e v s) (λ v s. act_plainly b x.line (Puts o x.offset (lvalue b x.t) v) s)))
+        (sure-seq (Kept os s.world (λ v z. Value b z (given_type e) v)) (λ v z. Inv os z) (full_expression b u.call e (spend s)) (plain.full_expression b u'.call e (spend s)) _ _ (full-sure os e h.0 (spend s) i) (λ v t k.
+        sure-seq (Kept os t.world (λ v z. Value b z (bare_type x.t) v × IsThere v)) (λ v z. Inv os z) (accepted_value b e v t) (plainly.accepted_value b e v t) _ _
+        (sure-seq (Kept os t.world (λ v z. Value b z (bare_type x.t) v)) (Kept os t.world (λ v z. Value b z (bare_type x.t) v × IsThere v)) (with_conversion b e v t) (plainly.with_conversion b e v t) _ _ (converted-sure os e (bare_type x.t) v t h.0 h.1 k.2 k.1) (λ v y q.
+        sure-more _ (Kept os t.world (λ v z. Value b z (bare_type x.t) v × IsThere v)) (act b (line_of e) (Accepts v) y) (act_plainly b (line_of e) (Accepts v) y) (λ v z p. (after-both q.0 p.0, p.1, p.2)) (accept-sure os (line_of e) (bare_type x.t) v y q.2 q.1))) (λ v y q.
         sure-more _ (λ v z. Inv os z) (act b x.line (Puts o x.offset (lvalue b x.t) v) y) (act_plainly b x.line (Puts o x.offset (lvalue b x.t) v) y) (λ v z p. p.1)
         (piece os (λ v z. Unit {0}) (act b x.line (Puts o x.offset (lvalue b x.t) v)) (act_plainly b x.line (Puts o x.offset (lvalue b x.t) v)) y q.1 (puts-holds b os x.line o y.world (in-scope b os o m.storage among) m.small x.offset x.t v lies h.2 q.2.1 (λ z g. (q.2.0.0, value-later y.world.memory.table z.memory.table g.made v q.2.0.1)))))))
     value-sure os o x (TextOf l) among m lies h s i =
@@ -324,9 +324,9 @@ module _ (b : Setting) (rest : List Bindings) (w0 : World) where
     returns-sure : (r : Ty) (os : List ℕ) (x : Option TypedTree) (line : ℕ) → IsReturned b.unit r os x → (s : State) → Inv os s.world → Sure (E r os) (returns_value b u.call x line s) (plain.returns_value b u'.call x line s)
     returns-sure r os None line h s i = (refl, (i, (none-nothing (layouts b.unit) r h, tt)))
     returns-sure r os (Some x) line h s i =
-        sure-seq (Kept os s.world (λ v z. Value b z (given_type x) v)) (E r os) (full b u.call x s) (plain.full b u'.call x s) _ _ (full-sure os x h.1 s i) (λ v t k.
-        sure-seq (Kept os t.world (λ v z. Value b z (bare h.0) v)) (E r os) (converted b x v t) (plainly.converted b x v t) _ _ (converted-sure os x (bare h.0) v t h.1 h.2 k.2 k.1) (λ v y q.
-        sure-seq (Kept os y.world (λ v z. Value b z (bare h.0) v × IsThere v)) (E r os) (act b line (Accepts v) y) (act_plainly b line (Accepts v) y) _ _ (accept-sure os line (bare h.0) v y q.2 q.1) (λ v x p.
+        sure-seq (Kept os s.world (λ v z. Value b z (given_type x) v)) (E r os) (full_expression b u.call x s) (plain.full_expression b u'.call x s) _ _ (full-sure os x h.1 s i) (λ v t k.
+        sure-seq (Kept os t.world (λ v z. Value b z (bare_type h.0) v)) (E r os) (with_conversion b x v t) (plainly.with_conversion b x v t) _ _ (converted-sure os x (bare_type h.0) v t h.1 h.2 k.2 k.1) (λ v y q.
+        sure-seq (Kept os y.world (λ v z. Value b z (bare_type h.0) v × IsThere v)) (E r os) (act b line (Accepts v) y) (act_plainly b line (Accepts v) y) _ _ (accept-sure os line (bare_type h.0) v y q.2 q.1) (λ v x p.
         (refl, (p.1, ((h.3 (layouts b.unit) v).0 (from-bare (layouts b.unit) h.0 v p.2.0.0), p.2.0.1))))))
 
     mutual
@@ -334,19 +334,19 @@ module _ (b : Setting) (rest : List Bindings) (w0 : World) where
 
       -- every statement
       pub ex-sure : (r : Ty) (os : List ℕ) (x : TypedStatement) → IsTypedStatement b.unit r os x → (s : State) → Inv os s.world → Sure (E r os) (ex b u x s) (plain.ex b u' x s)
-      ex-sure r os (Block line ds xs) h s i = sure-tick b (E r os) s (λ s. scoped b ds (λ s. exs b u xs s) s) (λ s. plain.scoped b ds (λ s. plain.exs b u' xs s) s) (scoped-sure r os ds (exs b u xs) (plain.exs b u' xs) h.0 h.1 (λ s i. exs-sure r (ds ++ os) xs h.2 s i) (spend s) i)
+      ex-sure r os (Block line ds xs) h s i = sure-tick b (E r os) s (λ s. in_block b ds (λ s. exs b u xs s) s) (λ s. plain.in_block b ds (λ s. plain.exs b u' xs s) s) (scoped-sure r os ds (exs b u xs) (plain.exs b u' xs) h.0 h.1 (λ s i. exs-sure r (ds ++ os) xs h.2 s i) (spend s) i)
       ex-sure r os (Declare line o) h s i = absurd h
-      ex-sure r os (Expression line x) h s i = sure-tick b (E r os) s (λ s. nothing_done (full b u.call x s)) (λ s. nothing_done (plain.full b u'.call x s)) (sure-seq (Kept os s.world (λ v z. Value b z (given_type x) v)) (E r os) (full b u.call x (spend s)) (plain.full b u'.call x (spend s)) _ _ (full-sure os x h (spend s) i) (λ v t k. (refl, (k.1, tt))))
+      ex-sure r os (Expression line x) h s i = sure-tick b (E r os) s (λ s. nothing_done (full_expression b u.call x s)) (λ s. nothing_done (plain.full_expression b u'.call x s)) (sure-seq (Kept os s.world (λ v z. Value b z (given_type x) v)) (E r os) (full_expression b u.call x (spend s)) (plain.full_expression b u'.call x (spend s)) _ _ (full-sure os x h (spend s) i) (λ v t k. (refl, (k.1, tt))))
       ex-sure r os (Empty line) h s i = sure-tick b (E r os) s (λ s. Gives Falls s) (λ s. Gives Falls s) (refl, (i, tt))
       ex-sure r os (If line c x) h s i = sure-tick b (E r os) s (λ s. then_do (testing b u.call c s) (λ v s. if is_true v then ex b u x s else Gives Falls s)) (λ s. then_do (plain.testing b u'.call c s) (λ v s. if is_true v then plain.ex b u' x s else Gives Falls s)) (sure-seq (λ v z. Inv os z) (E r os) (testing b u.call c (spend s)) (plain.testing b u'.call c (spend s)) _ _ (testing-sure os c h.0 (spend s) i) (λ v t k. or-falls r os (is_true v) (ex b u x t) (plain.ex b u' x t) t (ex-sure r os x h.1 t k) k))
       ex-sure r os (IfElse line c x y) h s i = sure-tick b (E r os) s (λ s. then_do (testing b u.call c s) (λ v s. if is_true v then ex b u x s else ex b u y s)) (λ s. then_do (plain.testing b u'.call c s) (λ v s. if is_true v then plain.ex b u' x s else plain.ex b u' y s)) (sure-seq (λ v z. Inv os z) (E r os) (testing b u.call c (spend s)) (plain.testing b u'.call c (spend s)) _ _ (testing-sure os c h.0 (spend s) i) (λ v t k. sure-if (E r os) (is_true v) (ex b u x t) (plain.ex b u' x t) (ex b u y t) (plain.ex b u' y t) (ex-sure r os x h.1 t k) (ex-sure r os y h.2 t k)))
       ex-sure r os (Switch line c (Block m ds xs)) h s i =
-          sure-tick b (E r os) s (λ s. then_do (full b u.call c s) (λ v s. then_do (converted b c v s) (λ v s. then_do (act b (line_of c) (Needs v) s) (λ v s. unless_none (target_of (int_of v) xs) (λ s. tick b s (λ s. then_do (scoped b ds (λ s. exs_at b u (target_of (int_of v) xs) xs s) s) switched)) s)))) (λ s. then_do (plain.full b u'.call c s) (λ v s. then_do (plainly.converted b c v s) (λ v s. then_do (act_plainly b (line_of c) (Needs v) s) (λ v s. unless_none (target_of (int_of v) xs) (λ s. tick b s (λ s. then_do (plain.scoped b ds (λ s. plain.exs_at b u' (target_of (int_of v) xs) xs s) s) switched)) s))))
-          (sure-seq (Kept os s.world (λ v z. Value b z (given_type c) v)) (E r os) (full b u.call c (spend s)) (plain.full b u'.call c (spend s)) _ _ (full-sure os c h.1 (spend s) i) (λ v t k.
-          sure-seq (Kept os t.world (λ v z. Value b z (IntTy h.0) v)) (E r os) (converted b c v t) (plainly.converted b c v t) _ _ (converted-sure os c (IntTy h.0) v t h.1 h.2 k.2 k.1) (λ v y q.
+          sure-tick b (E r os) s (λ s. then_do (full_expression b u.call c s) (λ v s. then_do (with_conversion b c v s) (λ v s. then_do (act b (line_of c) (Needs v) s) (λ v s. unless_none (target_of (int_of v) xs) (λ s. tick b s (λ s. then_do (in_block b ds (λ s. exs_at b u (target_of (int_of v) xs) xs s) s) behind_switch)) s)))) (λ s. then_do (plain.full_expression b u'.call c s) (λ v s. then_do (plainly.with_conversion b c v s) (λ v s. then_do (act_plainly b (line_of c) (Needs v) s) (λ v s. unless_none (target_of (int_of v) xs) (λ s. tick b s (λ s. then_do (plain.in_block b ds (λ s. plain.exs_at b u' (target_of (int_of v) xs) xs s) s) behind_switch)) s))))
+          (sure-seq (Kept os s.world (λ v z. Value b z (given_type c) v)) (E r os) (full_expression b u.call c (spend s)) (plain.full_expression b u'.call c (spend s)) _ _ (full-sure os c h.1 (spend s) i) (λ v t k.
+          sure-seq (Kept os t.world (λ v z. Value b z (IntTy h.0) v)) (E r os) (with_conversion b c v t) (plainly.with_conversion b c v t) _ _ (converted-sure os c (IntTy h.0) v t h.1 h.2 k.2 k.1) (λ v y q.
           sure-seq (Kept os y.world (λ v z. Value b z (IntTy h.0) v)) (E r os) (act b (line_of c) (Needs v) y) (act_plainly b (line_of c) (Needs v) y) _ _ (act-sure os (line_of c) (Needs v) (IntTy h.0) y q.1 (h.0, refl, q.2)) (λ v x p.
-          unless-way r os (target_of (int_of v) xs) xs (λ s. tick b s (λ s. then_do (scoped b ds (λ s. exs_at b u (target_of (int_of v) xs) xs s) s) switched)) (λ s. tick b s (λ s. then_do (plain.scoped b ds (λ s. plain.exs_at b u' (target_of (int_of v) xs) xs s) s) switched)) (target-found (int_of v) xs) (λ found s i. sure-tick b (E r os) s (λ s. then_do (scoped b ds (λ s. exs_at b u (target_of (int_of v) xs) xs s) s) switched) (λ s. then_do (plain.scoped b ds (λ s. plain.exs_at b u' (target_of (int_of v) xs) xs s) s) switched)
-          (sure-seq (E r os) (E r os) (scoped b ds (λ s. exs_at b u (target_of (int_of v) xs) xs s) (spend s)) (plain.scoped b ds (λ s. plain.exs_at b u' (target_of (int_of v) xs) xs s) (spend s)) _ _
+          unless-way r os (target_of (int_of v) xs) xs (λ s. tick b s (λ s. then_do (in_block b ds (λ s. exs_at b u (target_of (int_of v) xs) xs s) s) behind_switch)) (λ s. tick b s (λ s. then_do (plain.in_block b ds (λ s. plain.exs_at b u' (target_of (int_of v) xs) xs s) s) behind_switch)) (target-found (int_of v) xs) (λ found s i. sure-tick b (E r os) s (λ s. then_do (in_block b ds (λ s. exs_at b u (target_of (int_of v) xs) xs s) s) behind_switch) (λ s. then_do (plain.in_block b ds (λ s. plain.exs_at b u' (target_of (int_of v) xs) xs s) s) behind_switch)
+          (sure-seq (E r os) (E r os) (in_block b ds (λ s. exs_at b u (target_of (int_of v) xs) xs s) (spend s)) (plain.in_block b ds (λ s. plain.exs_at b u' (target_of (int_of v) xs) xs s) (spend s)) _ _
           (scoped-sure r os ds (exs_at b u (target_of (int_of v) xs) xs) (plain.exs_at b u' (target_of (int_of v) xs) xs) h.4 h.5 (λ s i. at-sure (target_of (int_of v) xs) r (ds ++ os) xs found h.6 s i) (spend s) i) (λ fl y q. switching r os fl y q))) x p.1))))
       ex-sure r os (Switch line c (Declare l o)) h s i = absurd h
       ex-sure r os (Switch line c (Expression l y)) h s i = absurd h
@@ -368,9 +368,9 @@ module _ (b : Setting) (rest : List Bindings) (w0 : World) where
       ex-sure r os (While line c x) h s i = sure-tick b (E r os) s (λ s. round b u.call (Some c) None (λ s. ex b u x s) (u.again (Some c) None x) s) (λ s. plain.round b u'.call (Some c) None (λ s. plain.ex b u' x s) (u'.again (Some c) None x) s) (round-sure r os (Some c) None (ex b u x) (plain.ex b u' x) (u.again (Some c) None x) (u'.again (Some c) None x) h.0 tt (λ s i. ex-sure r os x h.1 s i) (λ s i. level.again rest w0 r os (Some c) None x h.0 tt h.1 s i) (spend s) i)
       ex-sure r os (DoWhile line x c) h s i = sure-tick b (E r os) s (λ s. round_do b u.call c (λ s. ex b u x s) (u.again_do x c) s) (λ s. plain.round_do b u'.call c (λ s. plain.ex b u' x s) (u'.again_do x c) s) (round_do-sure r os c (ex b u x) (plain.ex b u' x) (u.again_do x c) (u'.again_do x c) h.1 (λ s i. ex-sure r os x h.0 s i) (λ s i. level.again_do rest w0 r os x c h.0 h.1 s i) (spend s) i)
       ex-sure r os (For line first c step x) h s i =
-          sure-tick b (E r os) s (λ s. stepped b u.call first (λ s. round b u.call c step (λ s. ex b u x s) (u.again c step x) s) s) (λ s. plain.stepped b u'.call first (λ s. plain.round b u'.call c step (λ s. plain.ex b u' x s) (u'.again c step x) s) s) (stepped-sure r os first (λ s. round b u.call c step (λ s. ex b u x s) (u.again c step x) s) (λ s. plain.round b u'.call c step (λ s. plain.ex b u' x s) (u'.again c step x) s) h.0 (λ s i. round-sure r os c step (ex b u x) (plain.ex b u' x) (u.again c step x) (u'.again c step x) h.1 h.2 (λ s i. ex-sure r os x h.3 s i) (λ s i. level.again rest w0 r os c step x h.1 h.2 h.3 s i) s i) (spend s) i)
+          sure-tick b (E r os) s (λ s. then_step b u.call first (λ s. round b u.call c step (λ s. ex b u x s) (u.again c step x) s) s) (λ s. plain.then_step b u'.call first (λ s. plain.round b u'.call c step (λ s. plain.ex b u' x s) (u'.again c step x) s) s) (stepped-sure r os first (λ s. round b u.call c step (λ s. ex b u x s) (u.again c step x) s) (λ s. plain.round b u'.call c step (λ s. plain.ex b u' x s) (u'.again c step x) s) h.0 (λ s i. round-sure r os c step (ex b u x) (plain.ex b u' x) (u.again c step x) (u'.again c step x) h.1 h.2 (λ s i. ex-sure r os x h.3 s i) (λ s i. level.again rest w0 r os c step x h.1 h.2 h.3 s i) s i) (spend s) i)
       ex-sure r os (ForDeclaration line ds xs c step x) h s i =
-          sure-tick b (E r os) s (λ s. scoped b ds (λ s. then_do (exs b u xs s) (λ fl s. falls fl (λ s. round b u.call c step (λ s. ex b u x s) (u.again c step x) s) s)) s) (λ s. plain.scoped b ds (λ s. then_do (plain.exs b u' xs s) (λ fl s. falls fl (λ s. plain.round b u'.call c step (λ s. plain.ex b u' x s) (u'.again c step x) s) s)) s) (scoped-sure r os ds (λ s. then_do (exs b u xs s) (λ fl s. falls fl (λ s. round b u.call c step (λ s. ex b u x s) (u.again c step x) s) s)) (λ s. then_do (plain.exs b u' xs s) (λ fl s. falls fl (λ s. plain.round b u'.call c step (λ s. plain.ex b u' x s) (u'.again c step x) s) s)) h.0 h.1 (λ s i. in-turn r (ds ++ os) (exs b u xs s) (plain.exs b u' xs s) (λ s. round b u.call c step (λ s. ex b u x s) (u.again c step x) s) (λ s. plain.round b u'.call c step (λ s. plain.ex b u' x s) (u'.again c step x) s) (exs-sure r (ds ++ os) xs h.2 s i)
+          sure-tick b (E r os) s (λ s. in_block b ds (λ s. then_do (exs b u xs s) (λ fl s. falls fl (λ s. round b u.call c step (λ s. ex b u x s) (u.again c step x) s) s)) s) (λ s. plain.in_block b ds (λ s. then_do (plain.exs b u' xs s) (λ fl s. falls fl (λ s. plain.round b u'.call c step (λ s. plain.ex b u' x s) (u'.again c step x) s) s)) s) (scoped-sure r os ds (λ s. then_do (exs b u xs s) (λ fl s. falls fl (λ s. round b u.call c step (λ s. ex b u x s) (u.again c step x) s) s)) (λ s. then_do (plain.exs b u' xs s) (λ fl s. falls fl (λ s. plain.round b u'.call c step (λ s. plain.ex b u' x s) (u'.again c step x) s) s)) h.0 h.1 (λ s i. in-turn r (ds ++ os) (exs b u xs s) (plain.exs b u' xs s) (λ s. round b u.call c step (λ s. ex b u x s) (u.again c step x) s) (λ s. plain.round b u'.call c step (λ s. plain.ex b u' x s) (u'.again c step x) s) (exs-sure r (ds ++ os) xs h.2 s i)
           (λ s i. round-sure r (ds ++ os) c step (ex b u x) (plain.ex b u' x) (u.again c step x) (u'.again c step x) h.3 h.4 (λ s i. ex-sure r (ds ++ os) x h.5 s i) (λ s i. level.again rest w0 r (ds ++ os) c step x h.3 h.4 h.5 s i) s i)) (spend s) i)
       ex-sure r os (Continue line) h s i = sure-tick b (E r os) s (λ s. Gives Continues s) (λ s. Gives Continues s) (refl, (i, tt))
       ex-sure r os (Break line) h s i = sure-tick b (E r os) s (λ s. Gives Breaks s) (λ s. Gives Breaks s) (refl, (i, tt))

@@ -5,10 +5,10 @@ use Rattle.pv_world.specs.Worlds.{Worth, World}
 use Rattle.pv_world.specs.Telling.{Told}
 use Rattle.pv_world.specs.Doing.{Done, Answers, Fails, Breaks}
 use Rattle.pv_eval.specs.States.{Setting, State, Res, Gives, Stops, Turns, then_do, tick, spend}
-use Rattle.pv_eval.specs.Acting.{acted, answered, by_side, sided, pair_count, noted}
+use Rattle.pv_eval.specs.Acting.{after_doing, answer_with_sides, by_side, with_side, pair_count, after_telling}
 use Rattle.pv_eval.specs.Operations.{Op, does, act}
 use Rattle.pv_guards.specs.Soundness.{IsSound, IsAfter}
-use Rattle.pv_guards.specs.Plain.{plainly, act_plainly}
+use Rattle.pv_guards.specs.Plain.{plain_doing, act_plainly}
 use Rattle.pv_guards.proofs.Results.{Answering}
 use Rattle.pv_guards.proofs.Triples.{Holds, After}
 use Rattle.pv_guards.proofs.Leaving.{ordered, after-itself}
@@ -55,24 +55,24 @@ pub holds-sure : {A : Type 0} (b : Setting) (os : List ℕ) (Q : A → World →
 holds-sure b os Q m m' s h sound = let p = h s after-itself sound in (p.0, after-lands b os Q s.world (m s) p.1)
 
 -- from an operation on a world, settled or not
-module _ (b : Setting) (R : Worth → World → Type 0) (closed : (v : Worth) (z : World) (k : ℕ) (high : Bool) → R v z → R v (sided z k high)) where
+module _ (b : Setting) (R : Worth → World → Type 0) (closed : (v : Worth) (z : World) (k : ℕ) (high : Bool) → R v z → R v (with_side z k high)) where
   side-lands : (o : Option Bool) (v : Worth) (line : ℕ) (z : World) (told : Told) (s : State) → R v z → Lands R (by_side o v line z told s)
   side-lands None v line z told s h = tt
   side-lands (Some high) v line z told s h = closed v z (pair_count z) high h
 
-  pair-lands : (c : Bool) (o : Option Bool) (v : Worth) (line : ℕ) (z : World) (told : Told) (s : State) → R v z → Lands R (if c then by_side o v line z told s else Gives v (noted z told s))
+  pair-lands : (c : Bool) (o : Option Bool) (v : Worth) (line : ℕ) (z : World) (told : Told) (s : State) → R v z → Lands R (if c then by_side o v line z told s else Gives v (after_telling z told s))
   pair-lands true o v line z told s h = side-lands o v line z told s h
   pair-lands false o v line z told s h = h
 
-  answered-lands : (sides : Option (List Bool)) (v : Worth) (line : ℕ) (z : World) (told : Told) (s : State) → R v z → Lands R (answered sides v line z told s)
+  answered-lands : (sides : Option (List Bool)) (v : Worth) (line : ℕ) (z : World) (told : Told) (s : State) → R v z → Lands R (answer_with_sides sides v line z told s)
   answered-lands None v line z told s h = h
   answered-lands (Some sides) v line z told s h = pair-lands (nat_lt (pair_count s.world) (pair_count z)) (slice_get sides (pair_count s.world)) v line z told s h
 
-  pub acted-lands : (line : ℕ) (d : Done) (s : State) → Answering R d → Lands R (acted b line d s)
+  pub acted-lands : (line : ℕ) (d : Done) (s : State) → Answering R d → Lands R (after_doing b line d s)
   acted-lands line (Answers v z told) s h = answered-lands b.sides v line z told s h
   acted-lands line (Fails y p z told) s h = tt
   acted-lands line (Breaks y p z told) s h = tt
 
   -- an operation that does what its rule says
-  pub does-sure : (line : ℕ) (o : Op) (s : State) → does b o s.world ≡ plainly b o s.world → Answering R (plainly b o s.world) → Sure R (act b line o s) (act_plainly b line o s)
-  does-sure line o s e h = (ap (λ d. acted b line d s) e, subst (λ d. Lands R (acted b line d s)) (sym e) (acted-lands line (plainly b o s.world) s h))
+  pub does-sure : (line : ℕ) (o : Op) (s : State) → does b o s.world ≡ plain_doing b o s.world → Answering R (plain_doing b o s.world) → Sure R (act b line o s) (act_plainly b line o s)
+  does-sure line o s e h = (ap (λ d. after_doing b line d s) e, subst (λ d. Lands R (after_doing b line d s)) (sym e) (acted-lands line (plain_doing b o s.world) s h))

@@ -13,7 +13,7 @@ use Rattle.pv_num.specs.Arithmetic.{one_if, binary_of}
 use Rattle.pv_num.proofs.Congruence.{equal_fits}
 use Rattle.pv_types.specs.Ty.{Ty, VoidTy, IntTy, PointerTo, ArrayOf, StructTag, UnionTag, FunctionTy, ConstOf}
 use Rattle.pv_types.specs.Layouts.{layout_in}
-use Rattle.pv_types.specs.Sorts.{bare}
+use Rattle.pv_types.specs.Sorts.{bare_type}
 use Rattle.pv_prov.specs.declared.names.Prov.{Prov}
 use Rattle.pv_prov.specs.declared.names.Prov.TheVariants.{Empty, Inst, Pair}
 use Rattle.pv_inst.specs.declared.values.Instance.{Instance}
@@ -21,7 +21,7 @@ use Rattle.pv_inst.specs.declared.values.Test.TheVariants.{Live}
 use Rattle.pv_inst.specs.declared.values.Tried.{Tried}
 use Rattle.pv_inst.specs.declared.values.Miss.{Miss}
 use Rattle.pv_inst.specs.Table.{Table, instance_at, IsMadeIn}
-use Rattle.pv_inst.specs.Use.{use_answer, settled}
+use Rattle.pv_inst.specs.Use.{use_answer, after_use}
 use Rattle.pv_shadow.specs.declared.byte.Byte.{Byte}
 use Rattle.pv_object.specs.declared.values.Pointer.{Pointer}
 use Rattle.pv_object.specs.declared.values.Scalar.{Scalar as ScalarType}
@@ -30,7 +30,7 @@ use Rattle.pv_object.specs.declared.values.Stop.{Stop}
 use Rattle.pv_object.specs.declared.values.Value.{Value as ScalarValue}
 use Rattle.pv_object.specs.declared.values.Value.TheVariants.{Int as IntValue, Unset, Pointer as PointerValue}
 use Rattle.pv_object.specs.Loading.{Loaded, value_of as load_of}
-use Rattle.pv_object.specs.Operations.{truth, recast, to_int, to_int_after, exposed_to, together, order, equal, shift, select}
+use Rattle.pv_object.specs.Operations.{truth, recast, to_int, to_int_after, exposed_to, together, order, pointer_equality, shift, select}
 use Rattle.pv_typed.specs.Known.{Each}
 use Rattle.pv_typed.specs.TypedUnits.{layouts}
 use Rattle.pv_watch.specs.declared.event.What.{What}
@@ -39,7 +39,7 @@ use Rattle.pv_world.specs.declared.got.Shape.TheVariants as shape
 use Rattle.pv_world.specs.declared.got.How.{How}
 use Rattle.pv_world.specs.declared.got.How.TheVariants.{Rounds, Passes, Numbers, Points, Recasts}
 use Rattle.pv_world.specs.Worlds.{Worth, Nothing, Missing, Scalar, Whole, World, with_table}
-use Rattle.pv_world.specs.Worths.{pointer, truth_int, int_of, pointer_of, unplain, unpresent, plain, present}
+use Rattle.pv_world.specs.Worths.{pointer, truth_int, int_of, pointer_of, why_not_set, why_missing, on_set_value, on_present_value}
 use Rattle.pv_world.specs.Telling.{Told, all_told}
 use Rattle.pv_world.specs.Doing.{Done}
 use Rattle.pv_world.specs.Conversions.{truth_by, truth_value, truth_worth, tests, opposite, number_by, recast_by, converts}
@@ -92,7 +92,7 @@ exposed-fits T p k tried false e = tt
 
 to-fits : (T : Table) (p : Pointer) (k : IntKind) (r : Result Tried Miss) → NumberFits k (to_int_after T p k r)
 to-fits T p k (Err m) = tt
-to-fits T p k (Ok tried) = exposed-fits (settled T p.prov (Ok tried)) p k tried (fits_of k (pos p.address)) refl
+to-fits T p k (Ok tried) = exposed-fits (after_use T p.prov (Ok tried)) p k tried (fits_of k (pos p.address)) refl
 
 right-true : (a b : Bool) → (a && b) ≡ true → b ≡ true
 right-true true b e = e
@@ -133,7 +133,7 @@ module _ (b : Setting) (w : World) (within : (i : ℕ) (x : Instance) → instan
   LivesOn U = AllLiveStill w.memory.table U
 
   -- a value that is there and was set
-  pointer-plain : (u : Ty) (v : Worth) (Q : Worth → World → Type 0) (go : Worth → Done) → Value b w (PointerTo u) v → ((p : Pointer) → IsPointing w.memory.table p → Answering Q (go (pointer p))) → Answering Q (plain v w go)
+  pointer-plain : (u : Ty) (v : Worth) (Q : Worth → World → Type 0) (go : Worth → Done) → Value b w (PointerTo u) v → ((p : Pointer) → IsPointing w.memory.table p → Answering Q (go (pointer p))) → Answering Q (on_set_value v w go)
   pointer-plain u (Scalar (PointerValue p)) Q go h g = g p (h.0, h.1)
   pointer-plain u (Scalar (IntValue n)) Q go h g = absurd h.0
   pointer-plain u (Scalar Unset) Q go h g = absurd h.0
@@ -141,7 +141,7 @@ module _ (b : Setting) (w : World) (within : (i : ℕ) (x : Instance) → instan
   pointer-plain u Nothing Q go h g = absurd h.0
   pointer-plain u (Whole bs a) Q go h g = absurd h.0
 
-  pointer-present : (u : Ty) (v : Worth) (Q : Worth → World → Type 0) (go : Worth → Done) → Value b w (PointerTo u) v → ((p : Pointer) → IsPointing w.memory.table p → Answering Q (go (pointer p))) → Answering Q (present v w go)
+  pointer-present : (u : Ty) (v : Worth) (Q : Worth → World → Type 0) (go : Worth → Done) → Value b w (PointerTo u) v → ((p : Pointer) → IsPointing w.memory.table p → Answering Q (go (pointer p))) → Answering Q (on_present_value v w go)
   pointer-present u (Scalar (PointerValue p)) Q go h g = g p (h.0, h.1)
   pointer-present u (Scalar (IntValue n)) Q go h g = absurd h.0
   pointer-present u (Scalar Unset) Q go h g = absurd h.0
@@ -166,7 +166,7 @@ module _ (b : Setting) (w : World) (within : (i : ℕ) (x : Instance) → instan
   truth-of t give (Whole bs a) h = (refl, here, h false w)
 
   pub tests-gives : (t : Ty) (give : Bool → Worth) (v : Worth) → ((c : Bool) (z : World) → Value b z t (give c)) → Answering (Tabled t) (tests give v w)
-  tests-gives t give v h = unless-answers (Tabled t) (unplain v) w _ (truth-of t give v h)
+  tests-gives t give v h = unless-answers (Tabled t) (why_not_set v) w _ (truth-of t give v h)
 
   pub truth-value : (k : IntKind) (c : Bool) (z : World) → Value b z (IntTy k) (truth_int c)
   truth-value k true z = (one_in k, tt)
@@ -178,7 +178,7 @@ module _ (b : Setting) (w : World) (within : (i : ℕ) (x : Instance) → instan
 
   -- conversions
   rounds-gives : (k : IntKind) (v : Worth) → Answering (Tabled (IntTy k)) (converts (Rounds k) v w)
-  rounds-gives k v = unless-answers (Tabled (IntTy k)) (unplain v) w _ (refl, here, (equal_fits k (int_of v) (convert_of k (int_of v)) refl refl, tt))
+  rounds-gives k v = unless-answers (Tabled (IntTy k)) (why_not_set v) w _ (refl, here, (equal_fits k (int_of v) (convert_of k (int_of v)) refl refl, tt))
 
   passes-gives : (j k : IntKind) (v : Worth) → is_character_kind k ≡ true → Value b w (IntTy j) v → Answering (Tabled (IntTy k)) (converts (Passes k) v w)
   passes-gives j k (Scalar (IntValue n)) e h = (refl, here, (equal_fits k n (convert_of k n) refl refl, tt))
@@ -202,7 +202,7 @@ module _ (b : Setting) (w : World) (within : (i : ℕ) (x : Instance) → instan
 
   numbers-gives : (k : IntKind) (v : Worth) → Answering (Tabled (IntTy k)) (converts (Numbers k) v w)
   numbers-gives k v =
-      unless-answers (Tabled (IntTy k)) (unplain v) w _ (number-gives k (pointer_of v) (to_int w.memory.table (pointer_of v) k) (to_int-live w.memory.table (pointer_of v) k) (to-fits w.memory.table (pointer_of v) k (use_answer w.memory.table (pointer_of v).prov Live)))
+      unless-answers (Tabled (IntTy k)) (why_not_set v) w _ (number-gives k (pointer_of v) (to_int w.memory.table (pointer_of v) k) (to_int-live w.memory.table (pointer_of v) k) (to-fits w.memory.table (pointer_of v) k (use_answer w.memory.table (pointer_of v).prov Live)))
 
   pointer-number : (implied : Bool) (k : IntKind) (v : Worth) → Answering (Tabled (IntTy k)) (converts (how_to_int implied shape.Pointer k) v w)
   pointer-number implied BoolKind v = tests-gives (IntTy BoolKind) truth_int v (truth-value BoolKind)
@@ -219,13 +219,13 @@ module _ (b : Setting) (w : World) (within : (i : ℕ) (x : Instance) → instan
   pointer-number implied ULLong v = numbers-gives ULLong v
 
   points-gives : (s : Ty) (v : Worth) → Answering (Tabled (PointerTo s)) (converts Points v w)
-  points-gives s v = unless-answers (Tabled (PointerTo s)) (unplain v) w _ (refl, to_ptr-live w.memory.table (int_of v), ptr-points w.memory.table within (int_of v))
+  points-gives s v = unless-answers (Tabled (PointerTo s)) (why_not_set v) w _ (refl, to_ptr-live w.memory.table (int_of v), ptr-points w.memory.table within (int_of v))
 
   recast-gives : (s : Ty) (p : Pointer) (got : Result Tried Stop × Table) → LivesOn got.1 → IsPointing got.1 p → Answering (Tabled (PointerTo s)) (recast_by w p got)
   recast-gives s p (Ok tried, T) l h = (refl, l, h)
   recast-gives s p (Err y, T) l h = tt
 
-  later-pointing : (p : Pointer) (r : Result Tried Miss) → IsPointing w.memory.table p → IsPointing (settled w.memory.table p.prov r) p
+  later-pointing : (p : Pointer) (r : Result Tried Miss) → IsPointing w.memory.table p → IsPointing (after_use w.memory.table p.prov r) p
   later-pointing p r h = (h.0, (settled-made w.memory.table p.prov p.prov r h.1.0, h.1.1))
 
   recasts-gives : (n : ℕ) (r s : Ty) (v : Worth) → Value b w (PointerTo r) v → Answering (Tabled (PointerTo s)) (converts (Recasts n) v w)
@@ -267,15 +267,15 @@ module _ (b : Setting) (w : World) (within : (i : ℕ) (x : Instance) → instan
 
   pub moves-gives : (minus first : Bool) (size : ℕ) (t u s : Ty) (v x : Worth) → Value b w t v → Value b w u x → Answering (Tabled (PointerTo s)) (moves minus first size v x w)
   moves-gives minus true size t u s v x h g =
-      unless-answers (Tabled (PointerTo s)) (unplain v) w _ (unless-answers (Tabled (PointerTo s)) (unplain x) w _
+      unless-answers (Tabled (PointerTo s)) (why_not_set v) w _ (unless-answers (Tabled (PointerTo s)) (why_not_set x) w _
       (moved-gives s (pointer_of v) (shift w.memory.table (pointer_of v) (distance minus size (int_of x))) (move-live AdditionOfPointers w.memory.table (pointer_of v) (distance minus size (int_of x))) (move-points w.memory.table within _ (pointer_of v) (distance minus size (int_of x)) (pointer-made b w t v h))))
   moves-gives minus false size t u s v x h g =
-      unless-answers (Tabled (PointerTo s)) (unplain v) w _ (unless-answers (Tabled (PointerTo s)) (unplain x) w _
+      unless-answers (Tabled (PointerTo s)) (why_not_set v) w _ (unless-answers (Tabled (PointerTo s)) (why_not_set x) w _
       (moved-gives s (pointer_of x) (shift w.memory.table (pointer_of x) (distance minus size (int_of v))) (move-live AdditionOfPointers w.memory.table (pointer_of x) (distance minus size (int_of v))) (move-points w.memory.table within _ (pointer_of x) (distance minus size (int_of v)) (pointer-made b w u x g))))
 
   pub selects-gives : (offset : ℕ) (u s : Ty) (v : Worth) → Value b w u v → Answering (Tabled (PointerTo s)) (selects offset v w)
   selects-gives offset u s v h =
-      unless-answers (Tabled (PointerTo s)) (unpresent v) w _
+      unless-answers (Tabled (PointerTo s)) (why_missing v) w _
       (moved-gives s (pointer_of v) (select w.memory.table (pointer_of v) offset) (move-live Indirection w.memory.table (pointer_of v) (pos offset)) (move-points w.memory.table within _ (pointer_of v) (pos offset) (pointer-made b w u v h)))
 
   -- differences
@@ -291,7 +291,7 @@ module _ (b : Setting) (w : World) (within : (i : ℕ) (x : Instance) → instan
 
   pub subtracts-gives : (size : ℕ) (t u : Ty) (v x : Worth) → 1 ≤ size → Value b w (PointerTo t) v → Value b w (PointerTo u) x → Answering (Tabled (IntTy Long)) (subtracts size v x w)
   subtracts-gives size t u v x some h g =
-      pointer-plain t v (Tabled (IntTy Long)) (λ v. plain x w (λ x. between size (pointer_of v) (pointer_of x) w)) h (λ p i. pointer-plain u x (Tabled (IntTy Long)) (λ x. between size p (pointer_of x) w) g (λ q j. between-gives size p q (together SubtractionOfPointers w.memory.table p q) refl (together-live SubtractionOfPointers w.memory.table p q) some i j))
+      pointer-plain t v (Tabled (IntTy Long)) (λ v. on_set_value x w (λ x. between size (pointer_of v) (pointer_of x) w)) h (λ p i. pointer-plain u x (Tabled (IntTy Long)) (λ x. between size p (pointer_of x) w) g (λ q j. between-gives size p q (together SubtractionOfPointers w.memory.table p q) refl (together-live SubtractionOfPointers w.memory.table p q) some i j))
 
   -- comparisons
   order-gives : (o : BinOp) (p q : Pointer) (got : Result (Ordering × Tried × Tried) Stop × Table) → LivesOn got.1 → is_order o ≡ true → Answering (Tabled (IntTy Int)) (ordered_by o w p q got)
@@ -304,7 +304,7 @@ module _ (b : Setting) (w : World) (within : (i : ℕ) (x : Instance) → instan
 
   pub orders-gives : (o : BinOp) (v x : Worth) → is_order o ≡ true → Answering (Tabled (IntTy Int)) (orders o v x w)
   orders-gives o v x e =
-      unless-answers (Tabled (IntTy Int)) (unplain v) w _ (unless-answers (Tabled (IntTy Int)) (unplain x) w _
+      unless-answers (Tabled (IntTy Int)) (why_not_set v) w _ (unless-answers (Tabled (IntTy Int)) (why_not_set x) w _
       (order-gives o (pointer_of v) (pointer_of x) (order w.memory.table (pointer_of v) (pointer_of x)) (together-live OrderOfPointers w.memory.table (pointer_of v) (pointer_of x)) e))
 
   equal-gives : (negated : Bool) (p q : Pointer) (got : Result (Bool × Tried × Tried) Stop × Table) → LivesOn got.1 → Answering (Tabled (IntTy Int)) (equal_by negated w p q got)
@@ -313,13 +313,13 @@ module _ (b : Setting) (w : World) (within : (i : ℕ) (x : Instance) → instan
 
   pub equals-gives : (negated : Bool) (v x : Worth) → Answering (Tabled (IntTy Int)) (equals negated v x w)
   equals-gives negated v x =
-      unless-answers (Tabled (IntTy Int)) (unplain v) w _ (unless-answers (Tabled (IntTy Int)) (unplain x) w _
-      (equal-gives negated (pointer_of v) (pointer_of x) (equal w.memory.table (pointer_of v) (pointer_of x)) (equal-live w.memory.table (pointer_of v) (pointer_of x))))
+      unless-answers (Tabled (IntTy Int)) (why_not_set v) w _ (unless-answers (Tabled (IntTy Int)) (why_not_set x) w _
+      (equal-gives negated (pointer_of v) (pointer_of x) (pointer_equality w.memory.table (pointer_of v) (pointer_of x)) (equal-live w.memory.table (pointer_of v) (pointer_of x))))
 
   -- 6.5.3.2p4
   pub follows-gives : (nothing : Bool) (u t : Ty) (v : Worth) → FollowsTo nothing t → Value b w (PointerTo u) v → Answering (Tabled t) (follows_to nothing v w)
-  follows-gives true u t v f h = unless-answers (Tabled t) (unpresent v) w _ (subst (λ x. Tabled x Nothing w) (sym f) (refl, here, (tt, tt)))
-  follows-gives false u t v f h = unless-answers (Tabled t) (unpresent v) w _ (subst (λ x. Tabled x v w) (sym f.1) (refl, here, h))
+  follows-gives true u t v f h = unless-answers (Tabled t) (why_missing v) w _ (subst (λ x. Tabled x Nothing w) (sym f) (refl, here, (tt, tt)))
+  follows-gives false u t v f h = unless-answers (Tabled t) (why_missing v) w _ (subst (λ x. Tabled x v w) (sym f.1) (refl, here, h))
 
   -- loads
   scalar-gives : (t : Ty) (s : ScalarType) (bytes : List Byte) (x : Shape) (p : Option Prov) (told : Told) (got : Loaded) → LivesOn got.1 → ((z : World) (v : ScalarValue) → IsScalar s (Scalar v) → IsFairValue z.memory.table v → Value b z t (Scalar v)) → Loads s got → Answering (Tabled t) (scalar_by w bytes x p told got)
@@ -331,7 +331,7 @@ module _ (b : Setting) (w : World) (within : (i : ℕ) (x : Instance) → instan
       told-fair T Unset h = tt
   scalar-gives t s bytes x p told (Err y, T) l g h = tt
 
-  pub worth-gives : (t : Ty) (bytes : List Byte) (origin : Option ℕ) (p : Option Prov) (told : Told) → IsValueType (bare t) → length bytes ≡ (layout_in (layouts b.unit) t).size → Each (IsFair w.memory.table) bytes → Answering (Tabled (bare t)) (worth_in w bytes (shape_of t) origin p told)
+  pub worth-gives : (t : Ty) (bytes : List Byte) (origin : Option ℕ) (p : Option Prov) (told : Told) → IsValueType (bare_type t) → length bytes ≡ (layout_in (layouts b.unit) t).size → Each (IsFair w.memory.table) bytes → Answering (Tabled (bare_type t)) (worth_in w bytes (shape_of t) origin p told)
   worth-gives (IntTy k) bytes origin p told v l h = scalar-gives (IntTy k) (scalar.Int k) bytes (shape.Int k) p told (load_of w.memory.table bytes (scalar.Int k)) (value-live w.memory.table bytes (scalar.Int k)) (λ z v i f. (i, f)) (value-loads w.memory.table within (scalar.Int k) bytes l h)
   worth-gives (PointerTo s) bytes origin p told v l h = scalar-gives (PointerTo s) scalar.Pointer bytes shape.Pointer p told (load_of w.memory.table bytes scalar.Pointer) (value-live w.memory.table bytes scalar.Pointer) (λ z v i f. (i, f)) (value-loads w.memory.table within scalar.Pointer bytes l h)
   worth-gives (StructTag n) bytes origin p told v l h = (refl, here, (sym l, h))

@@ -5,7 +5,7 @@ use Rattle.pv_types.specs.Ty.{Ty}
 use Rattle.pv_seq.specs.Sequencing.{Open}
 use Rattle.pv_world.specs.Worlds.{Worth, World}
 use Rattle.pv_eval.specs.States.{Setting, State, Res, Gives, Stops, Turns, then_do, spend}
-use Rattle.pv_eval.specs.Sequenced.{Given, done}
+use Rattle.pv_eval.specs.Sequenced.{Given, node_value}
 use Rattle.pv_eval.specs.Steps.{tick_if}
 use Rattle.pv_guards.specs.Soundness.{Value}
 
@@ -69,5 +69,5 @@ module _ {b : Setting} {Sound : World → Type 0} {To : World → World → Type
   abbrev pub Gave : Ty → Given → World → Type 0
   Gave t g w = Value b w t g.value
 
-  pub done-holds : (w : World) (t : Ty) (j : Open) (v : Worth) → Value b w t v → Holds (Gave t) w (done j v) (done j v)
+  pub done-holds : (w : World) (t : Ty) (j : Open) (v : Worth) → Value b w t v → Holds (Gave t) w (node_value j v) (node_value j v)
   done-holds w t j v h = gives (Gave t) w _ (λ z g. order.keeps t v g h)

@@ -1,6 +1,6 @@
 -- What a value of a type is in the eyes of the questions that operations ask.
 use Rattle.std.proofs.Common.{inl, inr, ◌≡◌, ℕ, ◌+◌, ◌≤◌, refl, sym, subst, ℤ, pos, neg_ℤ, arith, true, ◌&&◌, int_le, List, length}
-use Rattle.pv_types.specs.Sorts.{bare}
+use Rattle.pv_types.specs.Sorts.{bare_type}
 use Rattle.std.specs.Prelude.{◌⊎◌, ◌≤ℤ◌, ◌^◌, ◌-◌}
 use Rattle.std.proofs.lemmas.Int.{ints}
 use Rattle.std.proofs.lemmas.Bool.{le-leb, lt-ltb}
@@ -148,7 +148,7 @@ whole-stored i n Nothing h there = absurd h
 whole-stored i n (Scalar v) h there = absurd h
 
 -- 6.5.16.1p2, 6.7.9p11: a value of the type, qualifiers aside, is stored in the type's bytes, if it is there
-pub stored-of : (env : List Entry) (t : Ty) (v : Worth) → IsValueType (bare t) → IsOfType env (bare t) v → IsThere v → is_stored (shape_of t) (layout_in env t).size v ≡ true
+pub stored-of : (env : List Entry) (t : Ty) (v : Worth) → IsValueType (bare_type t) → IsOfType env (bare_type t) v → IsThere v → is_stored (shape_of t) (layout_in env t).size v ≡ true
 stored-of env (IntTy k) v s h there = int-stored k (layout_in env (IntTy k)).size v h there
 stored-of env (PointerTo t) v s h there = pointer-stored t (layout_in env (PointerTo t)).size v h there
 stored-of env (StructTag n) v s h there = whole-stored n (layout_in env (StructTag n)).size v h there

@@ -12,7 +12,7 @@ use Rattle.pv_eval.specs.Evaluation.{ev}
 use Rattle.pv_eval.specs.Operations.{Op, does}
 use Rattle.pv_guards.specs.Typed.{given_type, IsFunction}
 use Rattle.pv_guards.specs.Soundness.{Value, AreValues, IsSound, IsAfter}
-use Rattle.pv_guards.specs.Plain.{plainly}
+use Rattle.pv_guards.specs.Plain.{plain_doing}
 use Rattle.pv_guards.specs.PlainEvaluation as plain
 
 -- 6.5p1: where a piece of a run gives something, its value is of this type, and the world after it is later than the one before, and sound
@@ -44,4 +44,4 @@ GivesItsType b os call x =
 
 -- 6.3, 6.5: an operation whose operands are as typing promises does what its rule says, and gives a value of its type
 abbrev pub DoesItsRule : Setting → (automatic : List ℕ) → Op → Ty → World → Type 0
-DoesItsRule b os op t w = (does b op w ≡ plainly b op w) × AnswersSound b os t w (does b op w)
+DoesItsRule b os op t w = (does b op w ≡ plain_doing b op w) × AnswersSound b os t w (does b op w)

@@ -11,35 +11,35 @@ use Rattle.pv_eval.specs.States.{Setting, State, Res, Gives, Stops, Unreached, t
 use Rattle.pv_eval.specs.TypeForms.{lvalue, size_of}
 use Rattle.pv_eval.specs.Operations.{Tests, Accepts, Needs, Makes, Ends, BeginsBody, EndsBody, Fills, Puts, PutsText}
 use Rattle.pv_eval.specs.Steps.{Calling}
-use Rattle.pv_exec.specs.Flows.{Flow, Falls, Breaks, Continues, Returns, Below, each, nothing_done, falls, goes_on, switched}
+use Rattle.pv_exec.specs.Flows.{Flow, Falls, Breaks, Continues, Returns, Below, each, nothing_done, falls, goes_on, behind_switch}
 use Rattle.pv_exec.specs.Labels.{Target, target_of, is_target, unless_none}
 use Rattle.pv_exec.specs.Calls.{value_by}
 use Rattle.pv_guards.specs.Plain.{act_plainly}
-use Rattle.pv_guards.specs.PlainSteps.{converted, handed}
+use Rattle.pv_guards.specs.PlainSteps.{with_conversion, accepted_value}
 use Rattle.pv_guards.specs.PlainEvaluation.{ev}
 
 -- 6.8p4: a full expression, which has no foes; its accesses end with it
-abbrev pub full : Setting → Calling → TypedTree → State → Res Worth
-full b call x s = then_do (ev b call x [] s) (λ g s. Gives g.value s)
+abbrev pub full_expression : Setting → Calling → TypedTree → State → Res Worth
+full_expression b call x s = then_do (ev b call x [] s) (λ g s. Gives g.value s)
 
 -- 6.8.4.1p2, 6.8.5p4: a controlling expression, compared with 0 at its own line
 abbrev pub testing : Setting → Calling → TypedTree → State → Res Worth
-testing b call x s = then_do (full b call x s) (λ v s. act_plainly b (line_of x) (Tests v) s)
+testing b call x s = then_do (full_expression b call x s) (λ v s. act_plainly b (line_of x) (Tests v) s)
 
 -- 6.2.4p6: and end when it is left, in the same order
 abbrev pub end_all : Setting → List ℕ → State → Res Worth
 end_all b os s = each (λ (o : ℕ) s. act_plainly b (object_at b.unit o).line (Ends o) s) os s
 
 -- 6.2.4p6: a block: its objects are made, it is executed, and in whatever way it is left they end
-abbrev pub scoped : Setting → List ℕ → (State → Res Flow) → State → Res Flow
-scoped b os body s =
+abbrev pub in_block : Setting → List ℕ → (State → Res Flow) → State → Res Flow
+in_block b os body s =
     then_do (each (λ (o : ℕ) s. act_plainly b (object_at b.unit o).line (Makes o) s) os s) (λ v s. then_do (body s) (λ fl s.
     then_do (end_all b os s) (λ v s. Gives fl s)))
 
 -- 6.7.9p11, p13, p14: a store of an initializer that is reached takes a turn: a value as if assigned, or a string's characters
 abbrev pub stores_value : Setting → Calling → (object : ℕ) → Store → StoredValue → State → Res Worth
 stores_value b call o x (ValueOf e) s =
-    tick b s (λ s. then_do (full b call e s) (λ v s. then_do (handed b e v s) (λ v s. act_plainly b x.line (Puts o x.offset (lvalue b x.t) v) s)))
+    tick b s (λ s. then_do (full_expression b call e s) (λ v s. then_do (accepted_value b e v s) (λ v s. act_plainly b x.line (Puts o x.offset (lvalue b x.t) v) s)))
 stores_value b call o x (TextOf l) s = tick b s (λ s. act_plainly b x.line (PutsText o x.offset (size_of b x.t) l) s)
 
 -- 6.7.9p10, p19, p21: all bytes first: 0 where there are braces or a string for an array; without an initializer they have no value
@@ -59,13 +59,13 @@ if_tested b call None go s = go s
 if_tested b call (Some x) go s = then_do (testing b call x s) (λ v s. if is_true v then go s else Gives Falls s)
 
 -- 6.8.5.3p1, p2: the first or the last expression of a `for`, which may be left out
-abbrev pub stepped : Setting → Calling → Option TypedTree → (State → Res Flow) → State → Res Flow
-stepped b call None go s = go s
-stepped b call (Some x) go s = then_do (full b call x s) (λ v s. go s)
+abbrev pub then_step : Setting → Calling → Option TypedTree → (State → Res Flow) → State → Res Flow
+then_step b call None go s = go s
+then_step b call (Some x) go s = then_do (full_expression b call x s) (λ v s. go s)
 
 -- 6.8.5.1p1, 6.8.5.3p1: a round of `while` or `for`: the condition, the body, the last expression, and again
 abbrev pub round : Setting → Calling → (condition step : Option TypedTree) → (body again : State → Res Flow) → State → Res Flow
-round b call c step body again s = if_tested b call c (λ s. then_do (body s) (λ fl s. goes_on fl (stepped b call step again) s)) s
+round b call c step body again s = if_tested b call c (λ s. then_do (body s) (λ fl s. goes_on fl (then_step b call step again) s)) s
 
 -- 6.8.5.2p1: a round of `do`: the body, the condition, and again
 abbrev pub round_do : Setting → Calling → (condition : TypedTree) → (body again : State → Res Flow) → State → Res Flow
@@ -75,31 +75,31 @@ round_do b call c body again s = then_do (body s) (λ fl s. goes_on fl (if_teste
 abbrev pub returns_value : Setting → Calling → Option TypedTree → (line : ℕ) → State → Res Flow
 returns_value b call None line s = Gives (Returns Nothing) s
 returns_value b call (Some x) line s =
-    then_do (full b call x s) (λ v s. then_do (converted b x v s) (λ v s. then_do (act_plainly b line (Accepts v) s) (λ v s. Gives (Returns v) s)))
+    then_do (full_expression b call x s) (λ v s. then_do (with_conversion b x v s) (λ v s. then_do (act_plainly b line (Accepts v) s) (λ v s. Gives (Returns v) s)))
 
 -- 6.8p2, 5.1.2.3: what a statement does, its turn first; what the statements of a list do; and what they do from a label on
 unfoldable mutual
   pub ex : Setting → Below → TypedStatement → State → Res Flow
   -- 6.8.2p2
-  ex b u (Block line os xs) s = tick b s (λ s. scoped b os (λ s. exs b u xs s) s)
+  ex b u (Block line os xs) s = tick b s (λ s. in_block b os (λ s. exs b u xs s) s)
   -- a declaration stands in a list alone (6.8.2p1): there is no rule for another one
   ex b u (Declare line o) s = Stops Unreached s
-  ex b u (Expression line x) s = tick b s (λ s. nothing_done (full b u.call x s))
+  ex b u (Expression line x) s = tick b s (λ s. nothing_done (full_expression b u.call x s))
   ex b u (Empty line) s = tick b s (λ s. Gives Falls s)
   ex b u (If line c x) s = tick b s (λ s. then_do (testing b u.call c s) (λ v s. if is_true v then ex b u x s else Gives Falls s))
   ex b u (IfElse line c x y) s = tick b s (λ s. then_do (testing b u.call c s) (λ v s. if is_true v then ex b u x s else ex b u y s))
   ex b u (Switch line c (Block m os xs)) s =
-      tick b s (λ s. then_do (full b u.call c s) (λ v s. then_do (converted b c v s) (λ v s. then_do (act_plainly b (line_of c) (Needs v) s) (λ v s.
-      unless_none (target_of (int_of v) xs) (λ s. tick b s (λ s. then_do (scoped b os (λ s. exs_at b u (target_of (int_of v) xs) xs s) s) switched)) s))))
+      tick b s (λ s. then_do (full_expression b u.call c s) (λ v s. then_do (with_conversion b c v s) (λ v s. then_do (act_plainly b (line_of c) (Needs v) s) (λ v s.
+      unless_none (target_of (int_of v) xs) (λ s. tick b s (λ s. then_do (in_block b os (λ s. exs_at b u (target_of (int_of v) xs) xs s) s) behind_switch)) s))))
   -- 6.8.4.2: nor for a `switch` whose body is no block, which has no label
   ex b u (Switch line c x) s = Stops Unreached s
   ex b u (Case line n x) s = ex b u x s
   ex b u (Default line x) s = ex b u x s
   ex b u (While line c x) s = tick b s (λ s. round b u.call (Some c) None (λ s. ex b u x s) (u.again (Some c) None x) s)
   ex b u (DoWhile line x c) s = tick b s (λ s. round_do b u.call c (λ s. ex b u x s) (u.again_do x c) s)
-  ex b u (For line first c step x) s = tick b s (λ s. stepped b u.call first (λ s. round b u.call c step (λ s. ex b u x s) (u.again c step x) s) s)
+  ex b u (For line first c step x) s = tick b s (λ s. then_step b u.call first (λ s. round b u.call c step (λ s. ex b u x s) (u.again c step x) s) s)
   ex b u (ForDeclaration line os ds c step x) s =
-      tick b s (λ s. scoped b os (λ s. then_do (exs b u ds s) (λ fl s. falls fl (λ s. round b u.call c step (λ s. ex b u x s) (u.again c step x) s) s)) s)
+      tick b s (λ s. in_block b os (λ s. then_do (exs b u ds s) (λ fl s. falls fl (λ s. round b u.call c step (λ s. ex b u x s) (u.again c step x) s) s)) s)
   ex b u (Continue line) s = tick b s (λ s. Gives Continues s)
   ex b u (Break line) s = tick b s (λ s. Gives Breaks s)
   ex b u (Return line x) s = tick b s (λ s. returns_value b u.call x line s)

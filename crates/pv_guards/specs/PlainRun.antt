@@ -13,7 +13,7 @@ use Rattle.pv_eval.specs.TypeForms.{lvalue, size_of}
 use Rattle.pv_eval.specs.Operations.{Makes, MakesLiteral, MakesFunction, Fills, Puts, PutsText}
 use Rattle.pv_eval.specs.Constants.{constant_worth}
 use Rattle.pv_exec.specs.Flows.{each}
-use Rattle.pv_exec.specs.Run.{first}
+use Rattle.pv_exec.specs.Run.{initial_state}
 use Rattle.pv_guards.specs.Plain.{act_plainly}
 use Rattle.pv_guards.specs.PlainExecution.{below, call_body}
 
@@ -48,4 +48,4 @@ call_main b (Some f) s = call_body b (below b b.bound) (function_at b.unit f) []
 
 -- 5.1.2p1: the run: what comes before the first turn, and the call of `main`
 unfoldable pub run_of : Setting → List ScriptLine → Res Worth
-run_of b script = then_do (prepare b (first script b.zap)) (λ v s. call_main b (main_of b.unit) s)
+run_of b script = then_do (prepare b (initial_state script b.zap)) (λ v s. call_main b (main_of b.unit) s)

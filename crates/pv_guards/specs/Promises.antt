@@ -5,7 +5,7 @@ use Rattle.pv_num.specs.declared.kinds.IntKind.TheVariants.{Int, Long}
 use Rattle.pv_num.specs.Kinds.{Fits}
 use Rattle.pv_num.specs.Arithmetic.{IsPromoted, yielded_kind}
 use Rattle.pv_types.specs.Ty.{Ty, VoidTy, IntTy, PointerTo}
-use Rattle.pv_types.specs.Sorts.{bare}
+use Rattle.pv_types.specs.Sorts.{bare_type}
 use Rattle.pv_typed.specs.TypedUnits.{layouts}
 use Rattle.pv_world.specs.declared.got.How.{How}
 use Rattle.pv_world.specs.declared.got.How.TheVariants.{Rounds}
@@ -51,9 +51,9 @@ Promised b os w (Follows nothing v) t = (u : Ty) × Value b w (PointerTo u) v ×
 Promised b os w (Selects offset v) t = (u : Ty) × (r : Ty) × Value b w (PointerTo u) v × (t ≡ PointerTo r)
 Promised b os w (TakesPart offset l v) t =
     (u : Ty) × Value b w u v × IsTag u × IsSized (layouts b.unit) t × IsValueType t × (l ≡ lvalue b t) × (offset + size_of b t ≤ size_of b u)
-Promised b os w (Reads l place rivals) t = (u : Ty) × (l ≡ lvalue b u) × IsSized (layouts b.unit) u × IsValueType (bare u) × (t ≡ bare u) × Value b w (PointerTo u) place
+Promised b os w (Reads l place rivals) t = (u : Ty) × (l ≡ lvalue b u) × IsSized (layouts b.unit) u × IsValueType (bare_type u) × (t ≡ bare_type u) × Value b w (PointerTo u) place
 Promised b os w (Writes l place v from rivals) t =
-    (u : Ty) × (l ≡ lvalue b u) × IsSized (layouts b.unit) u × IsValueType (bare u) × (t ≡ bare u) × Value b w (PointerTo u) place × Value b w t v
+    (u : Ty) × (l ≡ lvalue b u) × IsSized (layouts b.unit) u × IsValueType (bare_type u) × (t ≡ bare_type u) × Value b w (PointerTo u) place × Value b w t v
 Promised b os w (NamesObject o) t = (r : Ty) × (t ≡ PointerTo r) × IsInScope b.unit os o
 Promised b os w (NamesLiteral l) t = (r : Ty) × (t ≡ PointerTo r) × IsIn l b.unit.instances
 Promised b os w (NamesFunction f) t = (r : Ty) × (t ≡ PointerTo r) × IsIn f b.unit.placed

@@ -2,7 +2,7 @@
 use Rattle.std.specs.Prelude.{◌≡◌, ℕ, ◌≤◌, true, false, List, [], ◌∷◌, length, Some, None}
 use Rattle.std.specs.declared.option.Option.{Option}
 use Rattle.pv_types.specs.Ty.{Ty, Tys, NoTys, MoreTys}
-use Rattle.pv_types.specs.Sorts.{bare}
+use Rattle.pv_types.specs.Sorts.{bare_type}
 use Rattle.pv_prov.specs.declared.names.Prov.{Prov}
 use Rattle.pv_inst.specs.declared.values.Instance.{Instance}
 use Rattle.pv_inst.specs.Table.{Table, instance_at, IsNumber, IsMadeIn}
@@ -33,7 +33,7 @@ Value b w t v = IsOfType (layouts b.unit) t v × IsFairWorth w.memory.table v
 -- 6.5.2.2p4: values of these types, each of which is there (6.9.1p12)
 abbrev pub AreValues : Setting → World → Tys → List Worth → Type 0
 AreValues b w NoTys [] = Unit {0}
-AreValues b w (MoreTys t ts) (v ∷ vs) = Value b w (bare t) v × IsThere v × AreValues b w ts vs
+AreValues b w (MoreTys t ts) (v ∷ vs) = Value b w (bare_type t) v × IsThere v × AreValues b w ts vs
 AreValues b w NoTys (v ∷ vs) = ⊥
 AreValues b w (MoreTys t ts) [] = ⊥
 

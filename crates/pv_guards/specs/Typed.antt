@@ -7,7 +7,7 @@ use Rattle.pv_num.specs.Kinds.{Fits}
 use Rattle.pv_num.specs.Arithmetic.{IsPromoted, yielded_kind}
 use Rattle.pv_types.specs.Ty.{Ty, Tys, VoidTy, IntTy, PointerTo, StructTag, UnionTag, FunctionTy, NoTys, MoreTys}
 use Rattle.pv_types.specs.Layouts.{Entry, layout_in, is_complete_in}
-use Rattle.pv_types.specs.Sorts.{bare, is_void}
+use Rattle.pv_types.specs.Sorts.{bare_type, is_void}
 use Rattle.pv_typed.specs.Constants.{is_shift}
 use Rattle.pv_typed.specs.TypedTree.{TypedTree, Node, Form, Constant, Object, Function, String, Subscript, Call, CallPointer, LibraryCall, Member, MemberOfValue, Arrow, Increment, Address, Indirection, Unary, Not, Sizeof, Cast, Arithmetic, PointerSum, PointerDifference, PointerOrder, PointerEquality, LogicalAnd, LogicalOr, Conditional, Assign, CompoundAssign, PointerAssign, Comma, Read, ArrayPointer, Convert, Arguments, NoArguments, MoreArguments, type_of, is_place, is_lvalue}
 use Rattle.pv_typed.specs.TypedUnits.{WholeUnit, layouts, object_at, function_at}
@@ -172,7 +172,7 @@ abbrev mutual
   IsTypedForm u os t (Object o) = IsInScope u os o
   IsTypedForm u os t (String l) = IsIn l u.instances
   IsTypedForm u os t (Function f) = IsIn f u.placed
-  IsTypedForm u os t (Read a) = IsTyped u os a × IsPlace a × (t ≡ bare (type_of a)) × IsSized (layouts u) (type_of a) × IsValueType t
+  IsTypedForm u os t (Read a) = IsTyped u os a × IsPlace a × (t ≡ bare_type (type_of a)) × IsSized (layouts u) (type_of a) × IsValueType t
   IsTypedForm u os t (ArrayPointer a) = IsTyped u os a × IsPlace a × ((e : Ty) × (t ≡ PointerTo e))
   IsTypedForm u os t (Convert a) = IsTyped u os a × HasValue a (type_of a) × MayConvert (type_of a) t
   IsTypedForm u os t (Address a) = IsTyped u os a × IsPlace a × (t ≡ PointerTo (type_of a))
@@ -202,12 +202,12 @@ abbrev mutual
   IsTypedForm u os t (Conditional a b c) = IsTyped u os a × HasValue a (type_of a) × IsScalarType (type_of a) × IsTyped u os b × HasType b t × IsTyped u os c × HasType c t
   IsTypedForm u os t (Comma a b) = IsTyped u os a × HasValue a (type_of a) × IsTyped u os b × HasValue b t
   IsTypedForm u os t (Assign a b) =
-      IsTyped u os a × IsPlace a × IsTyped u os b × HasType b t × (t ≡ bare (type_of a)) × IsSized (layouts u) (type_of a) × IsValueType t
+      IsTyped u os a × IsPlace a × IsTyped u os b × HasType b t × (t ≡ bare_type (type_of a)) × IsSized (layouts u) (type_of a) × IsValueType t
   IsTypedForm u os t (CompoundAssign op k a b) =
-      (j : IntKind) × (l : IntKind) × IsTyped u os a × IsPlace a × IsTyped u os b × HasType b (IntTy l) × (t ≡ IntTy j) × (t ≡ bare (type_of a)) × IsPromoted k × MayBeRight op k l × IsSized (layouts u) (type_of a)
+      (j : IntKind) × (l : IntKind) × IsTyped u os a × IsPlace a × IsTyped u os b × HasType b (IntTy l) × (t ≡ IntTy j) × (t ≡ bare_type (type_of a)) × IsPromoted k × MayBeRight op k l × IsSized (layouts u) (type_of a)
   IsTypedForm u os t (PointerAssign sign a b) =
-      (s : Ty) × IsTyped u os a × IsPlace a × IsTyped u os b × HasValue b (type_of b) × IsIntegerType (type_of b) × (t ≡ PointerTo s) × (t ≡ bare (type_of a)) × IsSized (layouts u) s × IsSized (layouts u) (type_of a)
-  IsTypedForm u os t (Increment op a) = IsTyped u os a × IsPlace a × (t ≡ bare (type_of a)) × MayStep (layouts u) t × IsSized (layouts u) (type_of a)
+      (s : Ty) × IsTyped u os a × IsPlace a × IsTyped u os b × HasValue b (type_of b) × IsIntegerType (type_of b) × (t ≡ PointerTo s) × (t ≡ bare_type (type_of a)) × IsSized (layouts u) s × IsSized (layouts u) (type_of a)
+  IsTypedForm u os t (Increment op a) = IsTyped u os a × IsPlace a × (t ≡ bare_type (type_of a)) × MayStep (layouts u) t × IsSized (layouts u) (type_of a)
   IsTypedForm u os t (Call f xs) = (ts : Tys) × IsFunction u f t ts × ArePassed u os ts false xs
   -- 6.5.2.2p9: by a type with `...` no function is called that the unit defines
   IsTypedForm u os t (CallPointer a xs) =
@@ -221,4 +221,4 @@ abbrev mutual
   ArePassed u os NoTys true (MoreArguments a xs) = IsTyped u os a × HasType a (type_of a) × IsValueType (type_of a) × ArePassed u os NoTys true xs
   ArePassed u os NoTys false (MoreArguments a xs) = ⊥
   ArePassed u os (MoreTys t ts) variadic NoArguments = ⊥
-  ArePassed u os (MoreTys t ts) variadic (MoreArguments a xs) = IsTyped u os a × HasType a (bare t) × IsValueType (bare t) × ArePassed u os ts variadic xs
+  ArePassed u os (MoreTys t ts) variadic (MoreArguments a xs) = IsTyped u os a × HasType a (bare_type t) × IsValueType (bare_type t) × ArePassed u os ts variadic xs

@@ -6,7 +6,7 @@ use Rattle.pv_num.specs.Kinds.{Fits}
 use Rattle.pv_num.specs.Arithmetic.{IsPromoted}
 use Rattle.pv_types.specs.Ty.{Ty, Tys, NoTys, MoreTys, IntTy, PointerTo, FunctionTy}
 use Rattle.pv_types.specs.Layouts.{layout_in, is_complete_in}
-use Rattle.pv_types.specs.Sorts.{bare, is_void}
+use Rattle.pv_types.specs.Sorts.{bare_type, is_void}
 use Rattle.pv_typed.specs.declared.values.Const.{Const}
 use Rattle.pv_typed.specs.declared.values.Const.TheVariants as const
 use Rattle.pv_typed.specs.Addresses.{constant_of}
@@ -47,7 +47,7 @@ MayBeTyped u os (Some x) = IsTyped u os x
 -- 6.8.6.4p1, p3: a `return` in a function with this result, which is like that of the function's definition (6.2.7p4, 6.9.1p3)
 abbrev pub IsReturned : WholeUnit → Ty → (automatic : List ℕ) → Option TypedTree → Type 0
 IsReturned u r os None = is_void r ≡ true
-IsReturned u r os (Some x) = (q : Ty) × IsTyped u os x × HasType x (bare q) × AreLike q r
+IsReturned u r os (Some x) = (q : Ty) × IsTyped u os x × HasType x (bare_type q) × AreLike q r
 
 -- 6.7.9p2: what is stored at one place of an initializer lies within the object
 abbrev pub LiesIn : WholeUnit → (object : ℕ) → Store → Type 0
@@ -55,7 +55,7 @@ LiesIn u o x = x.offset + (layout_in (layouts u) x.t).size ≤ (layout_in (layou
 
 -- 6.7.9p11: what an initializer stores, which is a value of the type, or a string
 abbrev pub IsInitializer : WholeUnit → (automatic : List ℕ) → Ty → StoredValue → Type 0
-IsInitializer u os t (ValueOf e) = IsTyped u os e × HasType e (bare t) × IsValueType (bare t)
+IsInitializer u os t (ValueOf e) = IsTyped u os e × HasType e (bare_type t) × IsValueType (bare_type t)
 IsInitializer u os t (TextOf l) = Unit {0}
 
 -- 6.7.9: all stores of an object's initializer
@@ -98,7 +98,7 @@ abbrev mutual
 
 -- 6.9.1p7, p10: the object of a parameter has the values of its type
 abbrev pub IsParameter : WholeUnit → ℕ → Ty → Type 0
-IsParameter u o t = IsMakeable u false o × AreLike t (object_at u o).t × IsValueType (bare (object_at u o).t)
+IsParameter u o t = IsMakeable u false o × AreLike t (object_at u o).t × IsValueType (bare_type (object_at u o).t)
 
 -- 6.9.1p10: the objects of parameters, one for each type
 abbrev pub AreParameters : WholeUnit → List ℕ → Tys → Type 0
@@ -108,7 +108,7 @@ AreParameters u _ _ = ⊥
 
 -- 6.9.1p3: what a function gives: nothing, or a value
 abbrev pub IsResult : Ty → Type 0
-IsResult r = (is_void r ≡ true) ⊎ IsValueType (bare r)
+IsResult r = (is_void r ≡ true) ⊎ IsValueType (bare_type r)
 
 -- 6.9.1: a function that is defined has an object for each parameter, and a body; another one has neither
 abbrev pub IsDefinition : WholeUnit → Ty → Tys → (parameters : List ℕ) → Option TypedStatement → Type 0
@@ -118,7 +118,7 @@ IsDefinition u r ts ps (Some x) = AreParameters u ps ts × AreNew ps [] × IsTyp
 -- 6.9.1, 5.1.2.2.1p1: a function with this result and these parameters; `main` gives an `int`
 pub record IsTypedFunction (u : WholeUnit) (x : TypedFunction) (r : Ty) (ts : Tys) : Type 0 where
   pub result : IsResult r
-  pub main : named_main u.names x.name ≡ true → bare r ≡ IntTy Int
+  pub main : named_main u.names x.name ≡ true → bare_type r ≡ IntTy Int
   pub definition : IsDefinition u r ts x.params x.body
 
 -- 6.6p9: the place of a constant is there: an object with static storage that the unit defines, a literal or a function with an instance, and
@@ -140,7 +140,7 @@ IsConstantOf (const.Function f) t = (s : Ty) × (t ≡ PointerTo s)
 
 -- 6.7.9p4: what an initializer of an object with static storage stores: a constant of the type, or a string
 abbrev pub IsConstant : WholeUnit → Ty → StoredValue → Type 0
-IsConstant u t (ValueOf e) = (c : Const) × (constant_of u e ≡ Some c) × IsPlaced u c × IsConstantOf c (bare t)
+IsConstant u t (ValueOf e) = (c : Const) × (constant_of u e ≡ Some c) × IsPlaced u c × IsConstantOf c (bare_type t)
 IsConstant u t (TextOf l) = Unit {0}
 
 -- 6.7.9p4: all stores of such an initializer
@@ -151,7 +151,7 @@ AreConstants u o xs = Each (λ (x : Store). LiesIn u o x × IsConstant u x.t x.w
 pub record IsTypedUnit (u : WholeUnit) : Type 0 where
   pub functions : (f : ℕ) (r : Ty) (ts : Tys) → f < length u.functions → (function_at u f).t ≡ FunctionTy r ts false → IsTypedFunction u (function_at u f) r ts
   -- 5.1.2.2.1p1: `main` is defined, has no parameters here, and gives an `int`
-  pub main : (f : ℕ) → main_of u ≡ Some f → (f < length u.functions) × HasBody u f × ((r : Ty) × ((function_at u f).t ≡ FunctionTy r NoTys false) × (bare r ≡ IntTy Int))
+  pub main : (f : ℕ) → main_of u ≡ Some f → (f < length u.functions) × HasBody u f × ((r : Ty) × ((function_at u f).t ≡ FunctionTy r NoTys false) × (bare_type r ≡ IntTy Int))
   -- 6.4.5p6: a literal's characters, and its zero
   pub characters : (l : ℕ) → Each (λ (v : ℕ). v < 256) (literal_at u l).bytes
   pub literals : (l : ℕ) → IsIn l u.instances → 1 ≤ length (literal_at u l).bytes

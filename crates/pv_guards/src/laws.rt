@@ -6,7 +6,7 @@ ghost use Rattle.pv_num.specs.declared.kinds.IntKind.TheVariants.{Int};
 ghost use Rattle.pv_types.specs.Ty.{Ty, IntTy};
 ghost use Rattle.pv_typed.specs.Mains.{main_of};
 ghost use Rattle.pv_typed.specs.TypedUnits.{layouts};
-ghost use Rattle.pv_typed.specs.Tables.{Stored, whole};
+ghost use Rattle.pv_typed.specs.Tables.{Stored, whole_unit};
 ghost use Rattle.pv_typed.specs.TypedTree.{TypedTree};
 ghost use Rattle.pv_world.specs.Worlds.{Worth, World};
 ghost use Rattle.pv_eval.specs.States.{Setting, State, Gives, Stops, Unreached};
@@ -28,12 +28,12 @@ ghost use Rattle.pv_guards.specs.Laws.{CallsAgree, MeetsNoGuard, GivesItsType, D
 /// The run of the rules has no outcome where C has no rule, as for a call of a function without a body (6.9p5): it never comes to that.
 /// And what `main` gives is an `int` (5.1.2.2.3p1).
 pub fn typed_units_meet_no_guard()
-    ensures same { (u : Stored) → IsTypedUnit (whole u) → (sides : Option (List Bool)) (zap : Bool) (script : List ScriptLine) (n : ℕ) →
+    ensures same { (u : Stored) → IsTypedUnit (whole_unit u) → (sides : Option (List Bool)) (zap : Bool) (script : List ScriptLine) (n : ℕ) →
         run_at u sides zap script n ≡ plain.run_of (setting_of u n sides zap) script }
-    ensures ruled { (u : Stored) → IsTypedUnit (whole u) → (sides : Option (List Bool)) (zap : Bool) (script : List ScriptLine) (n : ℕ) (s : State) →
+    ensures ruled { (u : Stored) → IsTypedUnit (whole_unit u) → (sides : Option (List Bool)) (zap : Bool) (script : List ScriptLine) (n : ℕ) (s : State) →
         plain.run_of (setting_of u n sides zap) script ≢ Stops Unreached s }
-    ensures status { (u : Stored) → IsTypedUnit (whole u) → (f : ℕ) → main_of (whole u) ≡ Some f → (sides : Option (List Bool)) (zap : Bool) (script : List ScriptLine) (n : ℕ) →
-        (v : Worth) (s : State) → run_at u sides zap script n ≡ Gives v s → IsOfType (layouts (whole u)) (IntTy Int) v }
+    ensures status { (u : Stored) → IsTypedUnit (whole_unit u) → (f : ℕ) → main_of (whole_unit u) ≡ Some f → (sides : Option (List Bool)) (zap : Bool) (script : List ScriptLine) (n : ℕ) →
+        (v : Worth) (s : State) → run_at u sides zap script n ≡ Gives v s → IsOfType (layouts (whole_unit u)) (IntTy Int) v }
 {}
 
 /// A law: a typed expression (C17 6.5) meets no guard. In every sound world, against all accesses of other operands, settled or not and

@@ -10,11 +10,11 @@ use Rattle.pv_inst.specs.declared.values.Test.{Test}
 use Rattle.pv_inst.specs.declared.values.Tried.{Tried}
 use Rattle.pv_inst.specs.declared.values.Miss.{Miss}
 use Rattle.pv_inst.specs.Table.{Table}
-use Rattle.pv_inst.specs.Use.{survives, any_survives, judged}
+use Rattle.pv_inst.specs.Use.{survives, any_survives, test_answer}
 use Rattle.pv_inst.specs.Answers.{CanKeep}
 use Rattle.pv_inst.proofs.Together.{or_cases}
 
-judged_ok : (zap : Bool) (xs : List Instance) (s : Stands) (pair : Option ℕ) (t : Test) (tried : Tried) → judged zap xs s pair t ≡ Ok tried → (any_survives zap xs s t ≡ true) × (tried ≡ record { pair = pair; low = survives zap xs s.low t; high = survives zap xs s.high t })
+judged_ok : (zap : Bool) (xs : List Instance) (s : Stands) (pair : Option ℕ) (t : Test) (tried : Tried) → test_answer zap xs s pair t ≡ Ok tried → (any_survives zap xs s t ≡ true) × (tried ≡ record { pair = pair; low = survives zap xs s.low t; high = survives zap xs s.high t })
 judged_ok zap xs s pair t tried h = by (any_survives zap xs s t) _ _ refl h
   where
     by : (b : Bool) (x : Tried) (m : Miss) → any_survives zap xs s t ≡ b → cond b (Ok x) (Err m) ≡ Ok tried → (any_survives zap xs s t ≡ true) × (tried ≡ x)
@@ -34,7 +34,7 @@ high_kept None zap xs t h = tt
 high_kept (Some w) zap xs t h = surviving w.keeps_high w.high zap xs t h
 
 -- a pair may keep those that pass
-pub judged_can : (T : Table) (k : ℕ) (pair : Option ℕ) (t : Test) (tried : Tried) → judged T.zap T.instances (stands T.pairs (Pair k)) pair t ≡ Ok tried → CanKeep T (Pair k) tried
+pub judged_can : (T : Table) (k : ℕ) (pair : Option ℕ) (t : Test) (tried : Tried) → test_answer T.zap T.instances (stands T.pairs (Pair k)) pair t ≡ Ok tried → CanKeep T (Pair k) tried
 judged_can T k pair t tried h =
     let s = stands T.pairs (Pair k) in
     let j = judged_ok T.zap T.instances s pair t tried h in

@@ -6,8 +6,8 @@ use Rattle.pv_inst.specs.Exposure.{expose_one}
 use Rattle.pv_prov.specs.declared.names.Stands.{Stands}
 
 -- the memory model, exposure: the instance, exposed
-abbrev pub shown : Instance → Instance
-shown x = record x { exposed = true }
+abbrev pub exposure_from : Instance → Instance
+exposure_from x = record x { exposed = true }
 
 -- the memory model, exposure: both candidates, the low one first
 abbrev pub expose_two : Table → Stands → Table

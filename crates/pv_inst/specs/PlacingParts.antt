@@ -5,8 +5,8 @@ use Rattle.pv_inst.specs.declared.values.Instance.{Instance}
 use Rattle.pv_inst.specs.Placing.{Request}
 
 -- 6.2.8p2: the next multiple of 16, which suits every type of this target (7.22.3p1)
-abbrev pub rounded : ℕ → ℕ
-rounded a = (a + 15) / 16 * 16
+abbrev pub multiple_of_16 : ℕ → ℕ
+multiple_of_16 a = (a + 15) / 16 * 16
 
 -- the base (6.2.4p2) is less than that of the best one so far
 abbrev pub is_nearer : Option (ℕ × ℕ) → ℕ → Bool

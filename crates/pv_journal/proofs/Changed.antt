@@ -14,7 +14,7 @@ use Rattle.pv_script.specs.Words.{is_name}
 use Rattle.pv_journal.specs.Journals as fact
 use Rattle.pv_journal.specs.Obeying.{State, is_id, at_held, held_at, is_live, is_open, end_at, expose_at, with_held, left_of, may_leave, use_at, keeping, after_fact}
 use Rattle.pv_journal.specs.Obeying as state
-use Rattle.pv_journal.specs.Keyed.{Left, is_of, live_size, ended_at, exposed_at, at_place, at_key, may_make, fresh, with_made, held_by, lives, opens, ends_at, begins_at, left_by, bonded, may_pair, with_pair, leaves, kept_by, asked, kept_in, use_by, use_in, used}
+use Rattle.pv_journal.specs.Keyed.{Left, is_of, live_size, ended_at, exposed_at, at_place, at_key, may_make, fresh, with_made, held_by, lives, opens, ends_at, begins_at, left_by, new_bond, may_pair, with_pair, leaves, kept_by, key_of_test, kept_in, use_by, use_in, after_pair_use}
 use Rattle.pv_journal.specs.Lines.{id_under, fact_under}
 use Rattle.pv_journal.specs.Standing.{held_under, bond_under, state_under, HasText, HaveTexts, IsHeldKnown, IsBondKnown, IsKnown, is_heap, Leaves}
 use Rattle.pv_journal.specs.declared.line.Key.{Key}
@@ -145,23 +145,23 @@ module _ (names : List (List ℕ)) where
       → All (IsHeldKnown names) xs → HasText names low → HasText names high
       → after_fact s (fact.Paired pair address (id_under names low) (id_under names high)) ≡ option_map (with_bonds names s) (with_pair xs bs pair address low high)
   paired_text s xs bs pair address low high e g all l h =
-      ap (λ b. cond b (Some (record s { bonds = s.bonds ++ bond_under names (bonded address low high) ∷ [] })) None) (pair_text xs bs pair address low high all l h s e g)
+      ap (λ b. cond b (Some (record s { bonds = s.bonds ++ bond_under names (new_bond address low high) ∷ [] })) None) (pair_text xs bs pair address low high all l h s e g)
       ∙ by (eqb pair (length bs + 1) && may_pair xs low high address)
     where
-      by : (b : Bool) → cond b (Some (record s { bonds = s.bonds ++ bond_under names (bonded address low high) ∷ [] })) None
-          ≡ option_map (with_bonds names s) (cond b (Some (bs ++ bonded address low high ∷ [])) None)
+      by : (b : Bool) → cond b (Some (record s { bonds = s.bonds ++ bond_under names (new_bond address low high) ∷ [] })) None
+          ≡ option_map (with_bonds names s) (cond b (Some (bs ++ new_bond address low high ∷ [])) None)
       by true = ap (λ (l : List state.Bond). Some (record s { bonds = l }))
-          (ap (λ (l : List state.Bond). l ++ bond_under names (bonded address low high) ∷ []) g ∙ sym (map-append (bond_under names) bs (bonded address low high ∷ [])))
+          (ap (λ (l : List state.Bond). l ++ bond_under names (new_bond address low high) ∷ []) g ∙ sym (map-append (bond_under names) bs (new_bond address low high ∷ [])))
       by false = refl
 
   -- ---- a use of a pair
 
-  heap_text : (b : Bond) (low : Bool) → bytes_eq (cond low (name_at names b.low.name) (name_at names b.high.name)) (codes "@heap") ≡ is_heap names (asked b low)
+  heap_text : (b : Bond) (low : Bool) → bytes_eq (cond low (name_at names b.low.name) (name_at names b.high.name)) (codes "@heap") ≡ is_heap names (key_of_test b low)
   heap_text b true = refl
   heap_text b false = refl
 
   leave_text : (xs : List Held) (b : Bond) (test : ℕ) (low high : Bool) → All (IsHeldKnown names) xs → IsBondKnown names b
-      → may_leave (map (held_under names) xs) (bond_under names b) test low high ≡ leaves (lives (held_by xs b.low)) (lives (held_by xs b.high)) (is_heap names (asked b low)) test low high
+      → may_leave (map (held_under names) xs) (bond_under names b) test low high ≡ leaves (lives (held_by xs b.low)) (lives (held_by xs b.high)) (is_heap names (key_of_test b low)) test low high
   leave_text xs b test low high all k =
       let x = ap is_live (held_text xs b.low all k.0) ∙ live_text names (held_by xs b.low) in
       let y = ap is_live (held_text xs b.high all k.1) ∙ live_text names (held_by xs b.high) in
@@ -178,7 +178,7 @@ module _ (names : List (List ℕ)) where
   keep_text s xs bs i test b kept e g all k =
       ap (λ t. cond t (Some (record s { bonds = slice_set s.bonds i (keeping (bond_under names b) kept) })) None)
       (ap (λ l. may_leave l (bond_under names b) test kept.0 kept.1) e ∙ leave_text xs b test kept.0 kept.1 all k)
-      ∙ by (leaves (lives (held_by xs b.low)) (lives (held_by xs b.high)) (is_heap names (asked b kept.0)) test kept.0 kept.1)
+      ∙ by (leaves (lives (held_by xs b.low)) (lives (held_by xs b.high)) (is_heap names (key_of_test b kept.0)) test kept.0 kept.1)
     where
       by : (t : Bool) → cond t (Some (record s { bonds = slice_set s.bonds i (bond_under names (kept_by b kept)) })) None ≡ option_map (with_bonds names s) (cond t (Some (slice_set bs i (kept_by b kept))) None)
       by true = ap (λ (l : List state.Bond). Some (record s { bonds = l }))
@@ -208,7 +208,7 @@ module _ (names : List (List ℕ)) where
 
   pub used_text : (s : State) (xs : List Held) (bs : List Bond) (pair test : ℕ) (first : Key) (second : Option Key) → s.held ≡ map (held_under names) xs → s.bonds ≡ map (bond_under names) bs
       → All (IsHeldKnown names) xs → All (IsBondKnown names) bs → HasText names first → HaveTexts names second
-      → after_fact s (fact.Used pair test (id_under names first) (option_map (id_under names) second)) ≡ option_map (with_bonds names s) (used xs (is_heap names) bs pair test first second)
+      → after_fact s (fact.Used pair test (id_under names first) (option_map (id_under names) second)) ≡ option_map (with_bonds names s) (after_pair_use xs (is_heap names) bs pair test first second)
   used_text s xs bs pair test first second e g all known f h = some (leb 1 pair)
     where
       at : (o : Option Bond) → slice_get bs (pair - 1) ≡ o
@@ -257,17 +257,17 @@ module _ (names : List (List ℕ)) where
   pub paired_known : (xs : List Held) (bs cs : List Bond) (pair address : ℕ) (low high : Key) → AllBonds bs → HasText names low → HasText names high
       → with_pair xs bs pair address low high ≡ Some cs → AllBonds cs
   paired_known xs bs cs pair address low high all l h e =
-      if_some (eqb pair (length bs + 1) && may_pair xs low high address) (Some (bs ++ bonded address low high ∷ [])) cs e
-      (λ t o. subst AllBonds (same_Some (bs ++ bonded address low high ∷ []) cs o) (All-push (IsBondKnown names) bs (bonded address low high) all (l, h)))
+      if_some (eqb pair (length bs + 1) && may_pair xs low high address) (Some (bs ++ new_bond address low high ∷ [])) cs e
+      (λ t o. subst AllBonds (same_Some (bs ++ new_bond address low high ∷ []) cs o) (All-push (IsBondKnown names) bs (new_bond address low high) all (l, h)))
 
   pub used_known : (xs : List Held) (heap : Key → Bool) (bs cs : List Bond) (pair test : ℕ) (first : Key) (second : Option Key) → AllBonds bs
-      → used xs heap bs pair test first second ≡ Some cs → AllBonds cs
+      → after_pair_use xs heap bs pair test first second ≡ Some cs → AllBonds cs
   used_known xs heap bs cs pair test first second all e =
       if_some (leb 1 pair) (use_in xs heap bs (pair - 1) test first second) cs e (λ t u.
       option_and_then_some (use_by xs heap bs (pair - 1) test first second) (slice_get bs (pair - 1)) cs u (λ b g v.
       if_some (b.keeps_low && b.keeps_high) (option_and_then (kept_in xs heap bs (pair - 1) test b) (left_by b first second)) cs v (λ w o.
       option_and_then_some (kept_in xs heap bs (pair - 1) test b) (left_by b first second) cs o (λ kept l r.
-      if_some (leaves (lives (held_by xs b.low)) (lives (held_by xs b.high)) (heap (asked b kept.0)) test kept.0 kept.1) (Some (slice_set bs (pair - 1) (kept_by b kept))) cs r (λ y z.
+      if_some (leaves (lives (held_by xs b.low)) (lives (held_by xs b.high)) (heap (key_of_test b kept.0)) test kept.0 kept.1) (Some (slice_set bs (pair - 1) (kept_by b kept))) cs r (λ y z.
       subst AllBonds (same_Some (slice_set bs (pair - 1) (kept_by b kept)) cs z)
       (All-set (IsBondKnown names) bs (pair - 1) (kept_by b kept) (all_get (IsBondKnown names) bs (pair - 1) b all g) all))))))
 
@@ -344,7 +344,7 @@ module _ (names : List (List ℕ)) (s : Standing) (known : IsKnown names s) wher
       paired_text names (state_under names s) s.held s.bonds pair address low high refl refl known.held l h ∙ ap (option_map (with_bonds names (state_under names s))) e
 
   pub leaves_used : (pair test : ℕ) (first : Key) (second : Option Key) (b : Bool) (new : List Bond) → HasText names first → HaveTexts names second
-      → Left b new (used s.held (is_heap names) s.bonds pair test first second)
+      → Left b new (after_pair_use s.held (is_heap names) s.bonds pair test first second)
       → Leaves names b (record s { bonds = new }) (after_fact (state_under names s) (fact.Used pair test (id_under names first) (option_map (id_under names) second)))
   leaves_used pair test first second true new f h e = (
     used_text names (state_under names s) s.held s.bonds pair test first second refl refl known.held known.bonds f h ∙ ap (option_map (with_bonds names (state_under names s))) e,

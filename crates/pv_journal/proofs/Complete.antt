@@ -7,7 +7,7 @@ use Rattle.pv_print.specs.Texts.{address_text}
 use Rattle.pv_script.specs.Words.{is_name}
 use Rattle.pv_prov.specs.TestNumbers.{test_text}
 use Rattle.pv_journal.specs.Journals.{Id, Fact, Made, Ended, Exposed, Paired, Used, Fault, Row, id_text, left_text, fact_words, row_text}
-use Rattle.pv_journal.specs.Reading.{number_behind, address_behind, id_of, id_in, id_behind, test_in, ids_of, ids_behind, at_turn, said_by, said}
+use Rattle.pv_journal.specs.Reading.{number_behind, address_behind, id_of, id_in, id_behind, test_in, ids_of, ids_behind, at_turn, said_by, row_said}
 use Rattle.pv_journal.proofs.Numbers.{decimal_is_read, address_is_read}
 use Rattle.pv_journal.proofs.Splits.{Lacks, Lacking, lacks-append, lacks-cons, cut_is, joined_lack}
 use Rattle.pv_journal.proofs.Letters.{is_plain, Stranger, plain_lacks, name_plain, decimal_lacks, number_lacks, address_lacks, id_lacks}
@@ -175,7 +175,7 @@ split_words t (Used pair test first second) l = cut_is 32 _ _ l
 split_words t Fault l = cut_is 32 _ _ l
 
 -- what is written of a line is read
-pub row_is_read : (row : Row) → Fits row → said (row_text row) ≡ Some row
+pub row_is_read : (row : Row) → Fits row → row_said (row_text row) ≡ Some row
 row_is_read row (h, f) =
     ap said_by (split_words row.turn row.says (words_lack 32 space refl row.turn row.says h f)) ∙ words_are_read row.turn row.says h f
 

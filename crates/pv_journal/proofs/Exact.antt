@@ -9,7 +9,7 @@ use Rattle.std.specs.Str.{bytes_eq}
 use Rattle.std.specs.Fmt.{decimal}
 use Rattle.pv_journal.specs.Journals.{Row, row_text, rows_text, last_text}
 use Rattle.pv_journal.specs.Obeying.{State, at_first, after, after_all, IsJournal, IsStuck, Here, Behind, IsBad}
-use Rattle.pv_journal.specs.Reading.{said, said_by, taken, taken_or, is_end, judged_from, judged}
+use Rattle.pv_journal.specs.Reading.{row_said, said_by, row_and_state, taken_or, is_end, judged_from, rows_or_wrong}
 use Rattle.pv_journal.proofs.Splits.{cut_is}
 use Rattle.pv_journal.proofs.Letters.{decimal_lacks}
 use Rattle.pv_journal.proofs.Passing.{row_passes, length-snoc}
@@ -17,12 +17,12 @@ use Rattle.pv_journal.proofs.Judging.{Walk, next_is, last_is, some_piece, cut_fr
 
 -- ---- a row is no last line
 
-last_unread : (n : ℕ) → n < 2 ^ 64 → said (last_text n) ≡ None
+last_unread : (n : ℕ) → n < 2 ^ 64 → row_said (last_text n) ≡ None
 last_unread n fits = ap said_by (cut_is 32 (codes "events") (decimal n ∷ []) (refl, (decimal_lacks 32 (lit< tt) n fits, tt)))
 
-not_last : (s : State) (p : List ℕ) (r : Row × State) (n : ℕ) → n < 2 ^ 64 → taken s p ≡ Some r → p ≡ last_text n → ⊥
+not_last : (s : State) (p : List ℕ) (r : Row × State) (n : ℕ) → n < 2 ^ 64 → row_and_state s p ≡ Some r → p ≡ last_text n → ⊥
 not_last s p r n fits h e =
-    none-some r (sym (ap (λ o. option_and_then (λ row. option_map (λ t. (row, t)) (after s row)) o) (ap said e ∙ last_unread n fits)) ∙ h)
+    none-some r (sym (ap (λ o. option_and_then (λ row. option_map (λ t. (row, t)) (after s row)) o) (ap row_said e ∙ last_unread n fits)) ∙ h)
 
 differs : (p q : List ℕ) → (p ≡ q → ⊥) → bytes_eq p q ≡ false
 differs p q h = by (bytes_eq p q) ((bytes_eq-Decides p q).0)
@@ -65,7 +65,7 @@ one_more n s before row u tail (p ∷ q ∷ ps) w passes =
         room = omega (arith, room, len, long);
         whole = w.whole ∙ sym (rows_text-snoc before row tail);
       },
-      ap (λ b. cond b (cond (is_end q ps) (Ok before) (Err (n + 1))) (taken_or (taken s p) (Err n) (λ row t. judged_from (n + 1) t (before ++ row ∷ []) (q ∷ ps)))) other
+      ap (λ b. cond b (cond (is_end q ps) (Ok before) (Err (n + 1))) (taken_or (row_and_state s p) (Err n) (λ row t. judged_from (n + 1) t (before ++ row ∷ []) (q ∷ ps)))) other
           ∙ ap (λ o. taken_or o (Err n) (λ row t. judged_from (n + 1) t (before ++ row ∷ []) (q ∷ ps))) next.0,
     )
 
@@ -101,7 +101,7 @@ at_end n t rows [] w = absurd (some_piece 10 (last_text (length rows) ++ (10 ∷
 at_end n t rows (p ∷ []) w = absurd (some_piece 10 [] (last_is n t rows (last_text (length rows) ++ (10 ∷ [])) p [] w [] refl).1)
 at_end n t rows (p ∷ q ∷ ps) w =
     let last = last_is n t rows (last_text (length rows) ++ (10 ∷ [])) p (q ∷ ps) w [] refl in
-    ap (λ b. cond b (cond (is_end q ps) (Ok rows) (Err (n + 1))) (taken_or (taken t p) (Err n) (λ row u. judged_from (n + 1) u (rows ++ row ∷ []) (q ∷ ps)))) ((bytes_eq-Decides p (last_text (length rows))).1 last.0)
+    ap (λ b. cond b (cond (is_end q ps) (Ok rows) (Err (n + 1))) (taken_or (row_and_state t p) (Err n) (λ row u. judged_from (n + 1) u (rows ++ row ∷ []) (q ∷ ps)))) ((bytes_eq-Decides p (last_text (length rows))).1 last.0)
     ∙ ends q ps last.1
   where
     ends : (q : List ℕ) (ps : List (List ℕ)) → [] ∷ [] ≡ q ∷ ps → cond (is_end q ps) (Ok rows) (Err (n + 1)) ≡ Ok rows
@@ -112,7 +112,7 @@ at_end n t rows (p ∷ q ∷ ps) w =
         end_of (q ∷ ps) = is_end q ps
 
 -- a journal is judged to be one
-pub journal_is : (bytes : List ℕ) (rows : List Row) → length bytes < 2 ^ 64 → IsJournal rows bytes → judged bytes ≡ Ok rows
+pub journal_is : (bytes : List ℕ) (rows : List Row) → length bytes < 2 ^ 64 → IsJournal rows bytes → rows_or_wrong bytes ≡ Ok rows
 journal_is bytes rows short j =
     let got = some_of (after_all at_first rows) j.obeys in
     let stop = along rows 1 at_first [] (slice_split (λ b. eqb b 10) bytes) got.0 (last_text (length rows) ++ (10 ∷ []))
@@ -127,8 +127,8 @@ stuck_at n t rows rest (p ∷ []) line w (Behind c tail e) = absurd (some_piece 
 stuck_at n t rows rest (p ∷ q ∷ ps) line w (Here next last) =
     let cut = cut_front 10 rest p q ps w.pieces in
     let other : bytes_eq p (last_text (length rows)) ≡ false = differs p (last_text (length rows)) (λ e. last cut.0 (cut.1 ∙ ap (λ l. l ++ (10 ∷ cut.0)) e)) in
-    ap (λ b. cond b (cond (is_end q ps) (Ok rows) (Err (n + 1))) (taken_or (taken t p) (Err n) (λ row u. judged_from (n + 1) u (rows ++ row ∷ []) (q ∷ ps)))) other
-    ∙ ap (λ o. taken_or o (Err n) (λ row u. judged_from (n + 1) u (rows ++ row ∷ []) (q ∷ ps))) (none_of (taken t p) (λ r e.
+    ap (λ b. cond b (cond (is_end q ps) (Ok rows) (Err (n + 1))) (taken_or (row_and_state t p) (Err n) (λ row u. judged_from (n + 1) u (rows ++ row ∷ []) (q ∷ ps)))) other
+    ∙ ap (λ o. taken_or o (Err n) (λ row u. judged_from (n + 1) u (rows ++ row ∷ []) (q ∷ ps))) (none_of (row_and_state t p) (λ r e.
     let was = taken_was t p r e in
     next r.0 r.1 cut.0 (after_all-snoc at_first t rows r.0 w.leaves ∙ was.1) (cut.1 ∙ ap (λ l. l ++ (10 ∷ cut.0)) was.0)))
     ∙ ap Err w.number
@@ -136,7 +136,7 @@ stuck_at n t rows rest (p ∷ q ∷ ps) line w (Behind c tail e) =
     let last = last_is n t rows rest p (q ∷ ps) w (c ∷ tail) e in
     let m = w.number in
     let number : n + 1 ≡ length rows + 2 = omega (arith, m) in
-    ap (λ b. cond b (cond (is_end q ps) (Ok rows) (Err (n + 1))) (taken_or (taken t p) (Err n) (λ row u. judged_from (n + 1) u (rows ++ row ∷ []) (q ∷ ps)))) ((bytes_eq-Decides p (last_text (length rows))).1 last.0)
+    ap (λ b. cond b (cond (is_end q ps) (Ok rows) (Err (n + 1))) (taken_or (row_and_state t p) (Err n) (λ row u. judged_from (n + 1) u (rows ++ row ∷ []) (q ∷ ps)))) ((bytes_eq-Decides p (last_text (length rows))).1 last.0)
     ∙ goes q ps last.1 ∙ ap Err number
   where
     goes : (q : List ℕ) (ps : List (List ℕ)) → slice_split (λ b. eqb b 10) (c ∷ tail) ≡ q ∷ ps → cond (is_end q ps) (Ok rows) (Err (n + 1)) ≡ Err (n + 1)
@@ -148,7 +148,7 @@ stuck_at n t rows rest (p ∷ q ∷ ps) line w (Behind c tail e) =
     goes (d ∷ ds) ps f = refl
 
 -- what is bad at a line is judged so
-pub bad_is : (bytes : List ℕ) (line : ℕ) → length bytes < 2 ^ 64 → IsBad bytes line → judged bytes ≡ Err line
+pub bad_is : (bytes : List ℕ) (line : ℕ) → length bytes < 2 ^ 64 → IsBad bytes line → rows_or_wrong bytes ≡ Err line
 bad_is bytes line short b =
     let got = some_of (after_all at_first b.rows) b.obey in
     let stop = along b.rows 1 at_first [] (slice_split (λ b. eqb b 10) bytes) got.0 b.rest

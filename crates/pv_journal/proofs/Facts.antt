@@ -8,7 +8,7 @@ use Rattle.std.specs.List.{slice_split, join_with_byte}
 use Rattle.pv_print.specs.Texts.{address_text}
 use Rattle.pv_prov.specs.TestNumbers.{test_text}
 use Rattle.pv_journal.specs.Journals.{Id, Fact, Made, Ended, Exposed, Paired, Used, Fault, Row, id_text, left_text, fact_words, row_text}
-use Rattle.pv_journal.specs.Reading.{decimal_in, behind, number_behind, address_behind, id_in, id_behind, test_in, ids_of, ids_behind, at_turn, said_in_2, said_in_3, said_in_5, said_in_6, said_by, said}
+use Rattle.pv_journal.specs.Reading.{decimal_in, behind, number_behind, address_behind, id_in, id_behind, test_in, ids_of, ids_behind, at_turn, said_in_2, said_in_3, said_in_5, said_in_6, said_by, row_said}
 use Rattle.pv_journal.proofs.Numbers.{decimal_was_read}
 use Rattle.pv_journal.proofs.Splits.{joined_again}
 use Rattle.pv_journal.proofs.Sound.{map_some, if_some, either_some, behind_was, number_was, address_was, id_was, id_behind_was}
@@ -101,6 +101,6 @@ words_were (a ∷ b ∷ c ∷ d ∷ e ∷ f ∷ []) row h = words_6 a b c d e f 
 words_were (a ∷ b ∷ c ∷ d ∷ e ∷ f ∷ g ∷ more) row h = absurd (none-some row h)
 
 -- what is read of a line is a line of that text
-pub said_was : (text : List ℕ) (row : Row) → said text ≡ Some row → text ≡ row_text row
+pub said_was : (text : List ℕ) (row : Row) → row_said text ≡ Some row → text ≡ row_text row
 said_was text row h =
     joined_again 32 text (slice_split (λ b. eqb b 32) text) refl ∙ ap (join_with_byte 32) (words_were (slice_split (λ b. eqb b 32) text) row h)

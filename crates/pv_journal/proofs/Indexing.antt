@@ -10,7 +10,7 @@ use Rattle.std.specs.Ordering.{is_lt}
 use Rattle.std.specs.declared.cmp.Ordering.TheVariants.{Less, Equal, Greater}
 use Rattle.std.specs.List.{slice_get, slice_set, list_all, list_any, sum_by}
 use Rattle.pv_journal.specs.Keyed.{exceeded_by, shares_bytes, live_size, fresh, may_make}
-use Rattle.pv_journal.specs.Indexed.{said_at, greatest, AreIndexed, IsFree}
+use Rattle.pv_journal.specs.Indexed.{said_at, greatest_number, AreIndexed, IsFree}
 use Rattle.pv_journal.specs.declared.line.Key.{Key}
 use Rattle.pv_journal.specs.declared.held.Held.{Held}
 use Rattle.pv_journal.proofs.Passing.{at_most, below}
@@ -63,14 +63,14 @@ indexed_push xs live ts us es fs key base size h free written put =
       sum = omega (arith, old, sum);
       tops = λ n.
           written n ∙ ap (λ g. cond (eqb key.name n) key.k g) (h.tops n)
-          ∙ top_raised n key.k (greatest n xs) (eqb key.name n) (λ t. exceeds n ((Decides-eqb key.name n).0 t))
+          ∙ top_raised n key.k (greatest_number n xs) (eqb key.name n) (λ t. exceeds n ((Decides-eqb key.name n).0 t))
           ∙ sym (greatest_push n xs (fresh key base size));
       distinct = distinct_push xs (fresh key base size) h.distinct free.exceeds;
       living = living_push xs es fs (fresh key base size) h.living refl free.some free.apart put;
     }
   where
-    exceeds : (n : ℕ) → key.name ≡ n → greatest n xs < key.k
-    exceeds n e = subst (λ (m : ℕ). greatest m xs < key.k) e (below (greatest key.name xs) key.k (sym (exceeds_by key xs free.number) ∙ free.exceeds))
+    exceeds : (n : ℕ) → key.name ≡ n → greatest_number n xs < key.k
+    exceeds n e = subst (λ (m : ℕ). greatest_number m xs < key.k) e (below (greatest_number key.name xs) key.k (sym (exceeds_by key xs free.number) ∙ free.exceeds))
 
 -- the number of the name, where it is written
 pub top_written : (ts us : List ℕ) (m k : ℕ) → m < length ts → us ≡ set ts m k → (n : ℕ) → get_or us n 0 ≡ cond (eqb m n) k (get_or ts n 0)

@@ -10,7 +10,7 @@ use Rattle.std.specs.List.{position_or_len, slice_get, list_all, list_any}
 use Rattle.pv_journal.specs.declared.line.Key.{Key}
 use Rattle.pv_journal.specs.declared.held.Held.{Held}
 use Rattle.pv_journal.specs.Keyed.{same_key, is_of, exceeded_by, shares_bytes}
-use Rattle.pv_journal.specs.Indexed.{greatest, Stands, AreLiving, AreDistinct, said_at}
+use Rattle.pv_journal.specs.Indexed.{greatest_number, Stands, AreLiving, AreDistinct, said_at}
 
 -- ---- rows of a list with one more, or with one changed
 
@@ -62,13 +62,13 @@ max_cond true false a c g = refl
 max_cond false true a c g = refl
 max_cond false false a c g = refl
 
-pub greatest_push : (n : ℕ) (xs : List Held) (y : Held) → greatest n (xs ++ y ∷ []) ≡ raised n y (greatest n xs)
+pub greatest_push : (n : ℕ) (xs : List Held) (y : Held) → greatest_number n (xs ++ y ∷ []) ≡ raised n y (greatest_number n xs)
 greatest_push n [] y = refl
-greatest_push n (x ∷ xs) y = ap (raised n x) (greatest_push n xs y) ∙ max_cond (eqb x.key.name n) (eqb y.key.name n) x.key.k y.key.k (greatest n xs)
+greatest_push n (x ∷ xs) y = ap (raised n x) (greatest_push n xs y) ∙ max_cond (eqb x.key.name n) (eqb y.key.name n) x.key.k y.key.k (greatest_number n xs)
 
-pub greatest_set : (n : ℕ) (xs : List Held) (i : ℕ) (x y : Held) → slice_get xs i ≡ Some x → y.key ≡ x.key → greatest n (set xs i y) ≡ greatest n xs
+pub greatest_set : (n : ℕ) (xs : List Held) (i : ℕ) (x y : Held) → slice_get xs i ≡ Some x → y.key ≡ x.key → greatest_number n (set xs i y) ≡ greatest_number n xs
 greatest_set n [] i x y h e = refl
-greatest_set n (z ∷ zs) zero x y h e = ap (λ (k : Key). cond (eqb k.name n) (max k.k (greatest n zs)) (greatest n zs)) (e ∙ ap (λ (w : Held). w.key) (sym (same_Some z x h)))
+greatest_set n (z ∷ zs) zero x y h e = ap (λ (k : Key). cond (eqb k.name n) (max k.k (greatest_number n zs)) (greatest_number n zs)) (e ∙ ap (λ (w : Held). w.key) (sym (same_Some z x h)))
 greatest_set n (z ∷ zs) (suc i) x y h e = ap (raised n z) (greatest_set n zs i x y h e)
 
 below_both : (b : Bool) (a g k : ℕ) → ((not b || ltb a k) && ltb g k) ≡ ltb (cond b (max a g) g) k
@@ -80,9 +80,9 @@ below_both true a g k = by (ltb a k) (ltb g k) refl refl
     by false t p q = sym (grind (arith, nat_tests))
 below_both false a g k = refl
 
-pub exceeds_by : (key : Key) (xs : List Held) → 1 ≤ key.k → list_all (exceeded_by key) xs ≡ ltb (greatest key.name xs) key.k
+pub exceeds_by : (key : Key) (xs : List Held) → 1 ≤ key.k → list_all (exceeded_by key) xs ≡ ltb (greatest_number key.name xs) key.k
 exceeds_by key [] h = let e : ltb 0 key.k ≡ true = grind (arith, nat_tests) in sym e
-exceeds_by key (x ∷ xs) h = ap (λ b. exceeded_by key x && b) (exceeds_by key xs h) ∙ below_both (eqb x.key.name key.name) x.key.k (greatest key.name xs) key.k
+exceeds_by key (x ∷ xs) h = ap (λ b. exceeded_by key x && b) (exceeds_by key xs h) ∙ below_both (eqb x.key.name key.name) x.key.k (greatest_number key.name xs) key.k
 
 -- ---- where an instance stands
 

@@ -11,7 +11,7 @@ use Rattle.std.specs.Str.{bytes_eq}
 use Rattle.std.specs.Fmt.{decimal}
 use Rattle.pv_journal.specs.Journals.{Row, row_text, rows_text, last_text}
 use Rattle.pv_journal.specs.Obeying.{State, at_first, after, after_all, Obeys, IsJournal, Here, Behind, IsBad}
-use Rattle.pv_journal.specs.Reading.{said, taken, taken_or, is_end, judged_from, judged}
+use Rattle.pv_journal.specs.Reading.{row_said, row_and_state, taken_or, is_end, judged_from, rows_or_wrong}
 use Rattle.pv_journal.proofs.Splits.{Lacks, lacks-append, first_cut, joined_again}
 use Rattle.pv_journal.proofs.Letters.{decimal_lacks}
 use Rattle.pv_journal.proofs.Sound.{map_some}
@@ -101,7 +101,7 @@ obeys before s h = some_is (after_all at_first before) s h
 
 -- a next line would be the first piece, and passes
 pub next_is : {bytes : List ℕ} (n : ℕ) (s : State) (before : List Row) (rest p : List ℕ) (ps : List (List ℕ)) → Walk bytes n s before rest (p ∷ ps)
-    → (row : Row) (t : State) (tail : List ℕ) → after_all at_first (before ++ row ∷ []) ≡ Some t → rest ≡ row_text row ++ (10 ∷ tail) → (taken s p ≡ Some (row, t)) × (slice_split (λ b. eqb b 10) tail ≡ ps)
+    → (row : Row) (t : State) (tail : List ℕ) → after_all at_first (before ++ row ∷ []) ≡ Some t → rest ≡ row_text row ++ (10 ∷ tail) → (row_and_state s p ≡ Some (row, t)) × (slice_split (λ b. eqb b 10) tail ≡ ps)
 next_is n s before rest p ps w row t tail h e =
     let passes : after s row ≡ Some t = sym (after_all-snoc at_first s before row w.leaves) ∙ h in
     let few = w.few in
@@ -109,7 +109,7 @@ next_is n s before rest p ps w row t tail h e =
     let long = ap length e ∙ length-append (row_text row) (10 ∷ tail) in
     let fits = (row_passes s row t w.stands (omega (arith, few, room, long)) passes).0 in
     let cut = front_cut (row_text row) tail p ps (row_lacks row fits) (ap (slice_split (λ b. eqb b 10)) (sym e) ∙ w.pieces) in
-    let read : said p ≡ Some row = ap said cut.0 ∙ row_is_read row fits in
+    let read : row_said p ≡ Some row = ap row_said cut.0 ∙ row_is_read row fits in
     (ap (option_and_then (λ (row : Row). option_map (λ (t : State). (row, t)) (after s row))) read ∙ ap (option_map (λ (t : State). (row, t))) passes, cut.1)
 
 pub last_is : {bytes : List ℕ} (n : ℕ) (s : State) (before : List Row) (rest p : List ℕ) (ps : List (List ℕ)) → Walk bytes n s before rest (p ∷ ps)
@@ -127,9 +127,9 @@ bad_here {bytes} n s before rest ps w next last =
 no_next : (p : Row × State) (o : Option (Row × State)) → o ≡ None → o ≡ Some p → ⊥
 no_next p o h g = none-some p (sym h ∙ g)
 
-pub taken_was : (s : State) (p : List ℕ) (r : Row × State) → taken s p ≡ Some r → (p ≡ row_text r.0) × (after s r.0 ≡ Some r.1)
+pub taken_was : (s : State) (p : List ℕ) (r : Row × State) → row_and_state s p ≡ Some r → (p ≡ row_text r.0) × (after s r.0 ≡ Some r.1)
 taken_was s p r h =
-    option_and_then_some _ (said p) r h (λ row d g. map_some (λ (t : State). (row, t)) (after s row) r g (λ t a e.
+    option_and_then_some _ (row_said p) r h (λ row d g. map_some (λ (t : State). (row, t)) (after s row) r g (λ t a e.
     let row_is : row ≡ r.0 = ap (λ (q : Row × State). q.0) e in
     let t_is : t ≡ r.1 = ap (λ (q : Row × State). q.1) e in
     (said_was p row d ∙ ap row_text row_is, ap (after s) (sym row_is) ∙ a ∙ ap Some t_is)))
@@ -167,10 +167,10 @@ Rests bytes n q ps = (t : State) (before : List Row) (rest : List ℕ) → Walk 
 -- it is not
 goes : {bytes : List ℕ} (o : Option (Row × State)) (n : ℕ) (s : State) (before : List Row) (rest p q : List ℕ) (ps : List (List ℕ)) → Walk bytes n s before rest (p ∷ q ∷ ps)
     → (ys : List ℕ) → rest ≡ p ++ (10 ∷ ys) → slice_split (λ b. eqb b 10) ys ≡ q ∷ ps → Rests bytes n q ps
-    → taken s p ≡ o → (p ≡ last_text (length before) → ⊥) → Answers bytes (taken_or o (Err n) (λ row t. judged_from (n + 1) t (before ++ row ∷ []) (q ∷ ps)))
+    → row_and_state s p ≡ o → (p ≡ last_text (length before) → ⊥) → Answers bytes (taken_or o (Err n) (λ row t. judged_from (n + 1) t (before ++ row ∷ []) (q ∷ ps)))
 goes None n s before rest p q ps w ys e f rec h not_last =
     bad_here n s before rest (p ∷ q ∷ ps) w
-    (λ row t tail a e. no_next (row, t) (taken s p) h (next_is n s before rest p (q ∷ ps) w row t tail a e).0)
+    (λ row t tail a e. no_next (row, t) (row_and_state s p) h (next_is n s before rest p (q ∷ ps) w row t tail a e).0)
     (λ tail e. not_last (last_is n s before rest p (q ∷ ps) w tail e).0)
 goes (Some r) n s before rest p q ps w ys e f rec h not_last =
     let was = taken_was s p r h in
@@ -193,9 +193,9 @@ goes (Some r) n s before rest p q ps w ys e f rec h not_last =
 
 by_last : {bytes : List ℕ} (b : Bool) (n : ℕ) (s : State) (before : List Row) (rest p q : List ℕ) (ps : List (List ℕ)) → (b ≡ true → p ≡ last_text (length before)) → (p ≡ last_text (length before) → b ≡ true)
     → Walk bytes n s before rest (p ∷ q ∷ ps) → (ys : List ℕ) × (rest ≡ p ++ (10 ∷ ys)) × (slice_split (λ b. eqb b 10) ys ≡ q ∷ ps) → Rests bytes n q ps
-    → Answers bytes (cond b (cond (is_end q ps) (Ok before) (Err (n + 1))) (taken_or (taken s p) (Err n) (λ row t. judged_from (n + 1) t (before ++ row ∷ []) (q ∷ ps))))
+    → Answers bytes (cond b (cond (is_end q ps) (Ok before) (Err (n + 1))) (taken_or (row_and_state s p) (Err n) (λ row t. judged_from (n + 1) t (before ++ row ∷ []) (q ∷ ps))))
 by_last true n s before rest p q ps f g w cut rec = at_last (is_end q ps) n s before rest p q ps w refl (f refl) cut.0 cut.1 cut.2
-by_last false n s before rest p q ps f g w cut rec = goes (taken s p) n s before rest p q ps w cut.0 cut.1 cut.2 rec refl (λ e. false≢true (g e))
+by_last false n s before rest p q ps f g w cut rec = goes (row_and_state s p) n s before rest p q ps w cut.0 cut.1 cut.2 rec refl (λ e. false≢true (g e))
 
 pub judged_is : {bytes : List ℕ} (ps : List (List ℕ)) (n : ℕ) (s : State) (before : List Row) (rest : List ℕ) → Walk bytes n s before rest ps → Answers bytes (judged_from n s before ps)
 judged_is [] n s before rest w = absurd (some_piece 10 rest w.pieces)
@@ -226,5 +226,5 @@ none_of None h = refl
 none_of (Some x) h = absurd (h x refl)
 
 -- each text is a journal, or wrong at one line
-pub verdict_is : (bytes : List ℕ) → length bytes < 2 ^ 64 → Answers bytes (judged bytes)
+pub verdict_is : (bytes : List ℕ) → length bytes < 2 ^ 64 → Answers bytes (rows_or_wrong bytes)
 verdict_is bytes short = judged_is (slice_split (λ b. eqb b 10) bytes) 1 at_first [] bytes (first_walk bytes short)

@@ -2,7 +2,7 @@
 use Rattle.std.proofs.Common.{◌≡◌, ℕ, ◌<◌, eqb, List, [], ◌∷◌, length, None, refl, arith}
 use Rattle.std.specs.List.{slice_split, count_by}
 use Rattle.std.proofs.lemmas.List.Splits.{length-slice_split}
-use Rattle.pv_journal.specs.Reading.{id_of, id_in, ids_of, said_by, said}
+use Rattle.pv_journal.specs.Reading.{id_of, id_in, ids_of, said_by, row_said}
 
 long_id : (ws : List (List ℕ)) → 2 < length ws → id_of ws ≡ None
 long_id [] h = refl
@@ -32,5 +32,5 @@ id_unread text h = let l = length-slice_split (λ b. eqb b 35) text in long_id (
 pub ids_unread : (text : List ℕ) → 1 < count_by (λ b. eqb b 44) text → ids_of (slice_split (λ b. eqb b 44) text) ≡ None
 ids_unread text h = let l = length-slice_split (λ b. eqb b 44) text in long_ids (slice_split (λ b. eqb b 44) text) (omega (arith, h, l))
 
-pub unread : (text : List ℕ) → 5 < count_by (λ b. eqb b 32) text → said text ≡ None
+pub unread : (text : List ℕ) → 5 < count_by (λ b. eqb b 32) text → row_said text ≡ None
 unread text h = let l = length-slice_split (λ b. eqb b 32) text in long_line (slice_split (λ b. eqb b 32) text) (omega (arith, h, l))

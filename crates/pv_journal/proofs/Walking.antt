@@ -15,7 +15,7 @@ use Rattle.std.specs.Str.{bytes_eq}
 use Rattle.std.specs.Fmt.{decimal}
 use Rattle.pv_journal.specs.Journals.{Row, last_text}
 use Rattle.pv_journal.specs.Obeying.{State, at_first, after, after_fact, IsJournal}
-use Rattle.pv_journal.specs.Reading.{behind, decimal_in, number_behind, said, taken, taken_or, first_line, is_end, judged_from, judged}
+use Rattle.pv_journal.specs.Reading.{behind, decimal_in, number_behind, row_said, row_and_state, taken_or, first_line, is_end, judged_from, rows_or_wrong}
 use Rattle.pv_journal.specs.Keyed.{may_follow}
 use Rattle.pv_journal.specs.Lines.{fact_under, row_under, rows_under}
 use Rattle.pv_journal.specs.Standing.{state_under, IsKnown, IsLineKnown, IsMore, IsNumbered, Leaves, Passes, Takes, Judges}
@@ -161,7 +161,7 @@ module _ (old new : List (List ℕ)) (s left : Standing) (row : Row) (what : Sai
   passes_none false e l = after_kept ∙ l
 
 -- a text that is read
-pub takes_by : {E : Type 0} (r : Result (Option Line) E) (s : State) (text : List ℕ) (row : Row) (names : List (List ℕ)) (left : Standing) → said text ≡ Some row
+pub takes_by : {E : Type 0} (r : Result (Option Line) E) (s : State) (text : List ℕ) (row : Row) (names : List (List ℕ)) (left : Standing) → row_said text ≡ Some row
     → IfOk r (Passes s row names left) → IfOk r (Takes s text names left)
 takes_by (Ok None) s text row names left e h =
     ap (option_and_then (λ (r : Row). option_map (λ (t : State). (r, t)) (after s r))) e ∙ ap (option_map (λ (t : State). (row, t))) h
@@ -169,7 +169,7 @@ takes_by (Ok (Some line)) s text row names left e h =
     (ap (option_and_then (λ (r : Row). option_map (λ (t : State). (r, t)) (after s r))) e ∙ ap (option_map (λ (t : State). (row, t))) h.0 ∙ (λ i. Some (sym h.1 i, state_under names left)), h.2, h.3)
 takes_by (Err x) s text row names left e h = tt
 
-pub takes_none : (s : State) (text : List ℕ) → said text ≡ None → taken s text ≡ None
+pub takes_none : (s : State) (text : List ℕ) → row_said text ≡ None → row_and_state s text ≡ None
 takes_none s text e = ap (option_and_then (λ (r : Row). option_map (λ (t : State). (r, t)) (after s r))) e
 
 -- ---- where the walk stands
@@ -193,12 +193,12 @@ module _ (names : List (List ℕ)) (s : Standing) (lines : List Line) (rest : Li
 
   judged_by : (p q : List ℕ) (ps : List (List ℕ)) (b : Bool) → rest ≡ p ∷ q ∷ ps → bytes_eq p (last_text (length lines)) ≡ b
       → wanted ≡ cond b (cond (is_end q ps) (Ok (rows_under names lines)) (Err (n + 1)))
-      (taken_or (taken (state_under names s) p) (Err n) (λ row t. judged_from (n + 1) t (rows_under names lines ++ row ∷ []) (q ∷ ps)))
+      (taken_or (row_and_state (state_under names s) p) (Err n) (λ row t. judged_from (n + 1) t (rows_under names lines ++ row ∷ []) (q ∷ ps)))
   judged_by p q ps b e last =
       let count : bytes_eq p (last_text (length (rows_under names lines))) ≡ b = ap (λ k. bytes_eq p (last_text k)) (length-map lines (row_under names)) ∙ last in
       sym g.same ∙ ap (judged_from n (state_under names s) (rows_under names lines)) e
       ∙ ap (λ t. cond t (cond (is_end q ps) (Ok (rows_under names lines)) (Err (n + 1)))
-      (taken_or (taken (state_under names s) p) (Err n) (λ row t. judged_from (n + 1) t (rows_under names lines ++ row ∷ []) (q ∷ ps)))) count
+      (taken_or (row_and_state (state_under names s) p) (Err n) (λ row t. judged_from (n + 1) t (rows_under names lines ++ row ∷ []) (q ∷ ps)))) count
 
   pub ends_well : (p q : List ℕ) (ps : List (List ℕ)) → rest ≡ p ∷ q ∷ ps → bytes_eq p (last_text (length lines)) ≡ true → is_end q ps ≡ true → wanted ≡ Ok (rows_under names lines)
   ends_well p q ps e last end = judged_by p q ps true e last ∙ ap (λ t. cond t (Ok (rows_under names lines)) (Err (n + 1))) end
@@ -206,7 +206,7 @@ module _ (names : List (List ℕ)) (s : Standing) (lines : List Line) (rest : Li
   pub ends_behind : (p q : List ℕ) (ps : List (List ℕ)) → rest ≡ p ∷ q ∷ ps → bytes_eq p (last_text (length lines)) ≡ true → is_end q ps ≡ false → wanted ≡ Err (n + 1)
   ends_behind p q ps e last end = judged_by p q ps true e last ∙ ap (λ t. cond t (Ok (rows_under names lines)) (Err (n + 1))) end
 
-  pub ends_bad : (p q : List ℕ) (ps : List (List ℕ)) → rest ≡ p ∷ q ∷ ps → bytes_eq p (last_text (length lines)) ≡ false → taken (state_under names s) p ≡ None → wanted ≡ Err n
+  pub ends_bad : (p q : List ℕ) (ps : List (List ℕ)) → rest ≡ p ∷ q ∷ ps → bytes_eq p (last_text (length lines)) ≡ false → row_and_state (state_under names s) p ≡ None → wanted ≡ Err n
   ends_bad p q ps e last none =
       judged_by p q ps false e last ∙ ap (λ o. taken_or o (Err n) (λ row t. judged_from (n + 1) t (rows_under names lines ++ row ∷ []) (q ∷ ps))) none
 
@@ -232,9 +232,9 @@ GoesIn names s lines rest wanted = Goes names s lines (slice_split (λ b. eqb b 
 some_left : (n : ℕ) → false ≡ eqb n 0 → 0 < n
 some_left n z = grind (arith, nat_tests)
 
-pub begins : (names : List (List ℕ)) (s : Standing) (lines : List Line) (bytes : List ℕ) → IsKnown names s → state_under names s ≡ at_first → lines ≡ [] → GoesIn names s lines bytes (judged bytes)
+pub begins : (names : List (List ℕ)) (s : Standing) (lines : List Line) (bytes : List ℕ) → IsKnown names s → state_under names s ≡ at_first → lines ≡ [] → GoesIn names s lines bytes (rows_or_wrong bytes)
 begins names s lines bytes k e none =
-    subst (λ (n : ℕ). Goes names s lines (slice_split (λ b. eqb b 10) bytes) n (judged bytes)) (sym (ap (λ (l : List Line). length l + 1) none))
+    subst (λ (n : ℕ). Goes names s lines (slice_split (λ b. eqb b 10) bytes) n (rows_or_wrong bytes)) (sym (ap (λ (l : List Line). length l + 1) none))
     (starts names s lines (slice_split (λ b. eqb b 10) bytes) k e none)
 
 module _ (names : List (List ℕ)) (s : Standing) (lines : List Line) (rest : List ℕ) (wanted : Result (List Row) ℕ) (g : GoesIn names s lines rest wanted) (count : ℕ) (counts : count ≡ length lines) where
@@ -257,7 +257,7 @@ module _ (names : List (List ℕ)) (s : Standing) (lines : List Line) (rest : Li
         (ap (λ n. bytes_eq text (last_text n)) (sym counts) ∙ sym last) (end_not beyond (first_piece 10 beyond).0 (first_piece 10 beyond).1 (first_piece 10 beyond).2 (some_left (length beyond) z))
         ∙ ap Err two
 
-    pub text_bad : false ≡ bytes_eq text (last_text count) → taken (state_under names s) text ≡ None → wanted ≡ Err (count + 1)
+    pub text_bad : false ≡ bytes_eq text (last_text count) → row_and_state (state_under names s) text ≡ None → wanted ≡ Err (count + 1)
     text_bad last none =
         ends_bad names s lines (slice_split (λ b. eqb b 10) rest) (length lines + 1) wanted g text (first_piece 10 beyond).0 (first_piece 10 beyond).1 cut
         (ap (λ n. bytes_eq text (last_text n)) (sym counts) ∙ sym last) none

@@ -13,9 +13,9 @@ abbrev pub said_at : List (ℕ × ℕ) → ℕ → Option ℕ
 said_at es q = lookup (is_at (nat_cmp q)) es
 
 -- the memory model: the greatest number of a name, 0 where no instance has it
-abbrev pub greatest : ℕ → List Held → ℕ
-greatest n [] = 0
-greatest n (h ∷ hs) = if h.key.name == n then max h.key.k (greatest n hs) else greatest n hs
+abbrev pub greatest_number : ℕ → List Held → ℕ
+greatest_number n [] = 0
+greatest_number n (h ∷ hs) = if h.key.name == n then max h.key.k (greatest_number n hs) else greatest_number n hs
 
 -- the memory model: no two instances have one name and one number
 abbrev pub AreDistinct : List Held → Type 0
@@ -41,7 +41,7 @@ pub record AreLiving (xs : List Held) (es : List (ℕ × ℕ)) : Type 0 where
 -- the memory model: what is kept beside the instances: the sum of the live bytes, the greatest number of each name, where live ones begin and end
 pub record AreIndexed (xs : List Held) (live : ℕ) (top : ℕ → ℕ) (es : List (ℕ × ℕ)) : Type 0 where
   pub sum : live ≡ sum_by live_size xs
-  pub tops : (n : ℕ) → top n ≡ greatest n xs
+  pub tops : (n : ℕ) → top n ≡ greatest_number n xs
   pub distinct : AreDistinct xs
   pub living : AreLiving xs es
 

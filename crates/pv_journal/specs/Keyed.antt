@@ -93,8 +93,8 @@ left_by b first None = if same_key first b.low then Some (true, false) else if s
 left_by b first (Some second) = if same_key first b.low && same_key second b.high then Some (true, true) else None
 
 -- the memory model: a pair that was just made keeps both
-abbrev pub bonded : (address : ℕ) → (low high : Key) → Bond
-bonded address low high = record { address = address; low = low; high = high; keeps_low = true; keeps_high = true }
+abbrev pub new_bond : (address : ℕ) → (low high : Key) → Bond
+new_bond address low high = record { address = address; low = low; high = high; keeps_low = true; keeps_high = true }
 
 -- the memory model: two that live, are exposed and meet at the address may be a pair
 abbrev pub may_pair : List Held → (low high : Key) → (address : ℕ) → Bool
@@ -103,7 +103,7 @@ may_pair xs low high address =
 
 -- the memory model: the pairs with a new one, if it may be made
 abbrev pub with_pair : List Held → List Bond → (pair address : ℕ) → (low high : Key) → Option (List Bond)
-with_pair xs bs pair address low high = if pair == length bs + 1 && may_pair xs low high address then Some (bs ++ bonded address low high ∷ []) else None
+with_pair xs bs pair address low high = if pair == length bs + 1 && may_pair xs low high address then Some (bs ++ new_bond address low high ∷ []) else None
 
 -- the memory model: what a test leaves, where it is known which of the two live, and whether the one that is left is an allocation
 abbrev pub leaves : (a b : Bool) → (heap : Bool) → (test : ℕ) → (low high : Bool) → Bool
@@ -118,13 +118,13 @@ abbrev pub kept_by : Bond → Bool × Bool → Bond
 kept_by b kept = record b { keeps_low = kept.0; keeps_high = kept.1 }
 
 -- the memory model: the candidate whose name the test for an allocation (7.22.3) looks at
-abbrev pub asked : Bond → (low : Bool) → Key
-asked b low = if low then b.low else b.high
+abbrev pub key_of_test : Bond → (low : Bool) → Key
+key_of_test b low = if low then b.low else b.high
 
 -- the memory model: a use of a pair that keeps these two, where the test may leave them
 abbrev pub kept_in : List Held → (Key → Bool) → List Bond → ℕ → (test : ℕ) → Bond → Bool × Bool → Option (List Bond)
 kept_in xs heap bs i test b kept =
-    if leaves (lives (held_by xs b.low)) (lives (held_by xs b.high)) (heap (asked b kept.0)) test kept.0 kept.1 then Some (slice_set bs i (kept_by b kept)) else None
+    if leaves (lives (held_by xs b.low)) (lives (held_by xs b.high)) (heap (key_of_test b kept.0)) test kept.0 kept.1 then Some (slice_set bs i (kept_by b kept)) else None
 
 abbrev pub use_by : List Held → (Key → Bool) → List Bond → ℕ → (test : ℕ) → Key → Option Key → Bond → Option (List Bond)
 use_by xs heap bs i test first second b =
@@ -135,5 +135,5 @@ abbrev pub use_in : List Held → (Key → Bool) → List Bond → ℕ → (test
 use_in xs heap bs i test first second = option_and_then (use_by xs heap bs i test first second) (slice_get bs i)
 
 -- the memory model: the same by the pair's number, from 1
-abbrev pub used : List Held → (Key → Bool) → List Bond → (pair test : ℕ) → Key → Option Key → Option (List Bond)
-used xs heap bs pair test first second = if nat_le 1 pair then use_in xs heap bs (pair - 1) test first second else None
+abbrev pub after_pair_use : List Held → (Key → Bool) → List Bond → (pair test : ℕ) → Key → Option Key → Option (List Bond)
+after_pair_use xs heap bs pair test first second = if nat_le 1 pair then use_in xs heap bs (pair - 1) test first second else None

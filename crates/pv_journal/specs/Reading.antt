@@ -137,12 +137,12 @@ said_by (a ∷ b ∷ c ∷ d ∷ e ∷ f ∷ []) = said_in_6 a b c d e f
 said_by (a ∷ b ∷ c ∷ d ∷ e ∷ f ∷ g ∷ more) = None
 
 -- docs/FORMATS.md, Journals (the memory model): what a line says, if it has a reading
-abbrev pub said : List ℕ → Option Row
-said text = said_by (slice_split (λ b. b == 32) text)
+abbrev pub row_said : List ℕ → Option Row
+row_said text = said_by (slice_split (λ b. b == 32) text)
 
 -- docs/FORMATS.md, Journals (the memory model): the line and what it leaves, where it has a reading and passes
-abbrev pub taken : State → List ℕ → Option (Row × State)
-taken s text = option_and_then (λ row. option_map (λ t. (row, t)) (after s row)) (said text)
+abbrev pub row_and_state : State → List ℕ → Option (Row × State)
+row_and_state s text = option_and_then (λ row. option_map (λ t. (row, t)) (after s row)) (row_said text)
 
 -- docs/FORMATS.md, Journals (the memory model): a line that does not pass is wrong; behind one that does it goes on
 abbrev pub taken_or : Option (Row × State) → Result (List Row) ℕ → (Row → State → Result (List Row) ℕ) → Result (List Row) ℕ
@@ -166,8 +166,8 @@ judged_from n s before [] = Err n
 judged_from n s before (p ∷ []) = Err n
 judged_from n s before (p ∷ q ∷ ps) =
     if bytes_eq p (last_text (length before)) then (if is_end q ps then Ok before else Err (n + 1))
-    else taken_or (taken s p) (Err n) (λ row t. judged_from (n + 1) t (before ++ row ∷ []) (q ∷ ps))
+    else taken_or (row_and_state s p) (Err n) (λ row t. judged_from (n + 1) t (before ++ row ∷ []) (q ∷ ps))
 
 -- docs/FORMATS.md, Journals (the memory model): the lines of a text, or its first line that is wrong
-abbrev pub judged : List ℕ → Result (List Row) ℕ
-judged bytes = judged_from 1 at_first [] (slice_split (λ b. b == 10) bytes)
+abbrev pub rows_or_wrong : List ℕ → Result (List Row) ℕ
+rows_or_wrong bytes = judged_from 1 at_first [] (slice_split (λ b. b == 10) bytes)

@@ -6,7 +6,7 @@ use Rattle.pv_script.specs.Names.{name_at}
 use Rattle.pv_journal.specs.Journals.{Id, Fact, Row}
 use Rattle.pv_journal.specs.Obeying.{State, after}
 use Rattle.pv_journal.specs.Obeying as state
-use Rattle.pv_journal.specs.Reading.{taken}
+use Rattle.pv_journal.specs.Reading.{row_and_state}
 use Rattle.pv_journal.specs.Lines.{id_under, fact_under, row_under, rows_under}
 use Rattle.pv_journal.specs.declared.error.JournalError.{JournalError}
 use Rattle.pv_journal.specs.declared.error.JournalError.TheVariants as error
@@ -107,8 +107,8 @@ Passes s row names new (Some line) = (after s row ≡ Some (state_under names ne
 
 -- the memory model: the same of a text
 abbrev pub Takes : State → List ℕ → List (List ℕ) → Standing → Option Line → Type 0
-Takes s text names new None = taken s text ≡ None
-Takes s text names new (Some line) = (taken s text ≡ Some (row_under names line, state_under names new)) × IsLineKnown names line × IsKnown names new
+Takes s text names new None = row_and_state s text ≡ None
+Takes s text names new (Some line) = (row_and_state s text ≡ Some (row_under names line, state_under names new)) × IsLineKnown names line × IsKnown names new
 
 -- the memory model: these lines, or the first that is wrong; after want of memory nothing is said
 abbrev pub Judges : {A : Type 0} → List (List ℕ) → (A → List Line) → Result (List Row) ℕ → Result A JournalError → Type 0

@@ -1,6 +1,6 @@
 // The pairs of candidates that lines have made, and their uses.
 ghost use Rattle.std.specs.Prelude.{◌≡◌, ◌<◌, Bool, All, [], length, slice_get, slice_set, Some, IfOk};
-ghost use Rattle.pv_journal.specs.Keyed.{left_by, Left, lives, opens, ends_at, begins_at, leaves, may_pair, with_pair, kept_by, asked, kept_in, use_in, used};
+ghost use Rattle.pv_journal.specs.Keyed.{left_by, Left, lives, opens, ends_at, begins_at, leaves, may_pair, with_pair, kept_by, key_of_test, kept_in, use_in, after_pair_use};
 ghost use Rattle.pv_journal.specs.Standing.{IsBondKnown, HasText, is_heap};
 
 use crate::held::{Held, Instances, same_key};
@@ -132,7 +132,7 @@ fn is_heap(names: &Names, key: Key) -> bool
 
 /// The candidate whose name a test for an allocation looks at.
 fn asked(b: &Bond, low: bool) -> Key
-    ensures { result ≡ asked b.now low }
+    ensures { result ≡ key_of_test b.now low }
 {
     if low { b.low } else { b.high }
 }
@@ -202,7 +202,7 @@ impl Bonds {
         kept: (bool, bool),
     ) -> bool
         requires { i < length self.old }
-        ensures { (h : Key → Bool) → heap ≡ h (asked b kept.0) → Left result self.new (kept_in held.now h self.old i test b kept) }
+        ensures { (h : Key → Bool) → heap ≡ h (key_of_test b kept.0) → Left result self.new (kept_in held.now h self.old i test b kept) }
     {
         let live = (lives(held.held_by(b.low)), lives(held.held_by(b.high)));
         if !leaves(live, heap, test, kept.0, kept.1) {
@@ -248,7 +248,7 @@ impl Bonds {
         second: Option<Key>,
     ) -> bool
         requires { All (IsBondKnown names.now) self.old }
-        ensures { Left result self.new (used held.now (is_heap names.now) self.old pair test first second) }
+        ensures { Left result self.new (after_pair_use held.now (is_heap names.now) self.old pair test first second) }
     {
         if pair < 1 || (self.made.len() as u64) < pair {
             return false;

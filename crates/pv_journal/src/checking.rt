@@ -5,7 +5,7 @@ ghost use Rattle.std.specs.Str.{bytes_eq};
 ghost use Rattle.pv_script.specs.Names.{name_at};
 ghost use Rattle.pv_journal.specs.Journals.{last_text};
 ghost use Rattle.pv_journal.specs.Obeying.{IsJournal};
-ghost use Rattle.pv_journal.specs.Reading.{first_line, judged};
+ghost use Rattle.pv_journal.specs.Reading.{first_line, rows_or_wrong};
 ghost use Rattle.pv_journal.specs.Lines.{rows_under, IsLineNamed};
 ghost use Rattle.pv_journal.specs.Standing.{Judges, IsMore};
 ghost use Rattle.pv_journal.specs.Answers.{IsFault};
@@ -54,7 +54,7 @@ fn is_text(bytes: &[u8])
 
 /// The lines of a text, or its first line that is wrong.
 fn lines_in(alloc: Global, bytes: &[u8], names: &mut Names) -> Result<Vec<Line>, JournalError>
-    ensures judges { Judges names.new (λ v. v.items) (judged bytes.now) result }
+    ensures judges { Judges names.new (λ v. v.items) (rows_or_wrong bytes.now) result }
     ensures named { IfOk result (λ v. All (IsLineNamed names.new) v.items) }
     ensures more { IsMore names.old names.new }
 {

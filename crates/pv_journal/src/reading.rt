@@ -376,7 +376,7 @@ fn said_by(alloc: Global, words: &[&[u8]]) -> Result<Option<Read>, NoMemory>
 
 /// What a line says, if it has a reading.
 pub(crate) fn said(alloc: Global, line: &[u8]) -> Result<Option<Read>, NoMemory>
-    ensures { IfOk result (λ o. option_map row_of o ≡ reading.said line.now) }
+    ensures { IfOk result (λ o. option_map row_of o ≡ reading.row_said line.now) }
 {
     if 5 < marks(line, b' ') {
         return Ok(None);

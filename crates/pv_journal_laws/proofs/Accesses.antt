@@ -18,14 +18,14 @@ use Rattle.pv_inst.specs.declared.values.Miss.{Miss}
 use Rattle.pv_inst.specs.declared.values.Test.TheVariants.{Live, Range}
 use Rattle.pv_inst.specs.declared.values.CreateError.{CreateError}
 use Rattle.pv_inst.specs.Table.{Table, instance_at, with_instance, IsMadeIn}
-use Rattle.pv_inst.specs.Use.{use_answer, settled, untried}
+use Rattle.pv_inst.specs.Use.{use_answer, after_use, empty_use}
 use Rattle.pv_inst.specs.TwoPointers.{same_miss, same_by, same_state, same_left, same_right}
 use Rattle.pv_inst.specs.Exposure.{expose, expose_one, exposing}
-use Rattle.pv_inst.specs.ExposureParts.{shown}
+use Rattle.pv_inst.specs.ExposureParts.{exposure_from}
 use Rattle.pv_inst.specs.Finding.{after_name, name_at}
 use Rattle.pv_inst.specs.Placing.{Request}
 use Rattle.pv_shadow.specs.declared.byte.Byte.{Byte}
-use Rattle.pv_shadow.specs.Whole.{whole_name, plain, number_in}
+use Rattle.pv_shadow.specs.Whole.{whole_name, number_bytes, number_in}
 use Rattle.pv_object.specs.declared.values.Pointer.{Pointer}
 use Rattle.pv_object.specs.declared.values.Reach.{Reach}
 use Rattle.pv_object.specs.declared.values.Stop.{Stop}
@@ -33,7 +33,7 @@ use Rattle.pv_object.specs.declared.values.Asker.TheVariants.{Access}
 use Rattle.pv_object.specs.declared.values.Value.{Value}
 use Rattle.pv_object.specs.Memory.{Mem}
 use Rattle.pv_object.specs.Access.{reach_after, clause_of, is_null}
-use Rattle.pv_object.specs.Creating.{created}
+use Rattle.pv_object.specs.Creating.{creation}
 use Rattle.pv_num.specs.Kinds.{is_character_kind as is_character}
 use Rattle.pv_object.specs.Loading.{Loaded, exposed_by, integer_of, is_trap, pointer_of as pointer_from, pointer_named}
 use Rattle.pv_object.specs.OperationParts.{live_answer, equal_by as equal_or_stop, both_or_stop, order_by as order_or_stop}
@@ -43,9 +43,9 @@ use Rattle.pv_watch.specs.declared.event.What.{What}
 use Rattle.pv_world.specs.declared.got.Shape.{Shape}
 use Rattle.pv_world.specs.declared.got.Shape.TheVariants as shape
 use Rattle.pv_world.specs.Worlds.{Worth, World, with_table}
-use Rattle.pv_world.specs.Telling.{Told, quiet, telling, used, uses, both_used, live_use, live_test, pairings}
+use Rattle.pv_world.specs.Telling.{Told, no_telling, telling, event_of_use, uses, both_used, live_use, live_test, pairings}
 use Rattle.pv_world.specs.Doing.{Done}
-use Rattle.pv_world.specs.Worths.{pointer_of, unplain, unpresent, bytes_of}
+use Rattle.pv_world.specs.Worths.{pointer_of, why_not_set, why_missing, bytes_of}
 use Rattle.pv_world.specs.Pointers.{ordered_by, equal_by, equals}
 use Rattle.pv_world.specs.Accesses.{reaching_by, reaching, scalar_by, worth_in, takes_bytes}
 use Rattle.pv_world.specs.AccessParts.{range_use}
@@ -84,23 +84,23 @@ module _ (names : List (List ℕ)) (distinct : AreDistinct names) (turn : ℕ) w
       (ordered-by op p q w OrderOfPointers (same_miss w.memory.table p.prov q.prov) (same-tells names distinct turn w.memory.table p.prov q.prov a b))
 
   -- equality
-  equal-right : (negated : Bool) (w : World) (p q : Pointer) (left : Tried) (U : Table) (r : Result Tried Miss) → Fine names w → Tells names turn w.memory.table (live_use w.memory.table p) U → Tells names turn U (uses live_test r) (settled U q.prov r)
-      → C w (equal_by negated w p q (equal_or_stop p q left r, settled U q.prov r))
+  equal-right : (negated : Bool) (w : World) (p q : Pointer) (left : Tried) (U : Table) (r : Result Tried Miss) → Fine names w → Tells names turn w.memory.table (live_use w.memory.table p) U → Tells names turn U (uses live_test r) (after_use U q.prov r)
+      → C w (equal_by negated w p q (equal_or_stop p q left r, after_use U q.prov r))
   equal-right negated w p q left U (Ok right) f t u = record { comes = record { tells = tells-trans t u; named = λ n. n } }
   equal-right negated w p q left U (Err m) f t u = record { comes = passed_told f t }
 
-  equal-left : (negated : Bool) (w : World) (p q : Pointer) (r : Result Tried Miss) → Fine names w → IsNumbered q.prov → Tells names turn w.memory.table (live_use w.memory.table p) (settled w.memory.table p.prov r)
+  equal-left : (negated : Bool) (w : World) (p q : Pointer) (r : Result Tried Miss) → Fine names w → IsNumbered q.prov → Tells names turn w.memory.table (live_use w.memory.table p) (after_use w.memory.table p.prov r)
       → C w (equal_by negated w p q (equal_after w.memory.table p q r))
   equal-left negated w p q (Err m) f h t = record { comes = passed_told f t }
   equal-left negated w p q (Ok left) f h t =
-      let U = settled w.memory.table p.prov (Ok left) in
+      let U = after_use w.memory.table p.prov (Ok left) in
       equal-right negated w p q left U (use_answer U q.prov Live) f t (use-tells names distinct turn U q.prov Live h)
 
   pub equals-come : (negated : Bool) (v x : Worth) (w : World) → Fine names w → IsNumbered (pointer_of v).prov → IsNumbered (pointer_of x).prov → C w (equals negated v x w)
   equals-come negated v x w f h g =
       let p = pointer_of v in
       let q = pointer_of x in
-      unless-comes names distinct turn (unplain v) w _ (unless-comes names distinct turn (unplain x) w _
+      unless-comes names distinct turn (why_not_set v) w _ (unless-comes names distinct turn (why_not_set x) w _
       (equal-left negated w p q (use_answer w.memory.table p.prov Live) f g (use-tells names distinct turn w.memory.table p.prov Live h)))
 
   -- accesses
@@ -111,10 +111,10 @@ module _ (names : List (List ℕ)) (distinct : AreDistinct names) (turn : ℕ) w
   reached-or w p us T (Ok at) go f t g = g at T us t
   reached-or w p us T (Err y) go f t g = record { comes = passed_told f t }
 
-  reached-by : (w : World) (p : Pointer) (us : List What) (n align : ℕ) (write : Bool) (c : Clause) (r : Result Tried Miss) (go : Reach → World → Told → Done) → Fine names w → Tells names turn w.memory.table us (settled w.memory.table p.prov r) → GoesOn w go
+  reached-by : (w : World) (p : Pointer) (us : List What) (n align : ℕ) (write : Bool) (c : Clause) (r : Result Tried Miss) (go : Reach → World → Told → Done) → Fine names w → Tells names turn w.memory.table us (after_use w.memory.table p.prov r) → GoesOn w go
       → C w (reaching_by w p us (reach_after w.memory.table p n align write c r) go)
   reached-by w p us n align write c (Err m) go f t g = record { comes = passed_told f t }
-  reached-by w p us n align write c (Ok tried) go f t g = reached-or w p us (settled w.memory.table p.prov (Ok tried)) _ go f t g
+  reached-by w p us n align write c (Ok tried) go f t g = reached-or w p us (after_use w.memory.table p.prov (Ok tried)) _ go f t g
 
   reached-if : (w : World) (p : Pointer) (us : List What) (b : Bool) (x y : Result Reach Stop × Table) (go : Reach → World → Told → Done) → C w (reaching_by w p us x go) → C w (reaching_by w p us y go) → C w (reaching_by w p us (cond b x y) go)
   reached-if w p us true x y go h g = h
@@ -133,12 +133,12 @@ module _ (names : List (List ℕ)) (distinct : AreDistinct names) (turn : ℕ) w
   nothing-paired T U e = subst (λ es. Tells names turn T es T) (sym e) tells-itself
 
   loaded-by : (z w : World) (bytes : List Byte) (s : Shape) (p : Option Prov) (t : Told) (q : Pointer) (V : Table) (r : Result Tried Miss) → Fine names z → Answered names turn z t.events w → Tells names turn w.memory.table (pairings w.memory.table V) V
-      → Tells names turn V (uses live_test r) (settled V q.prov r) → C z (scalar_by w bytes s p t (live_answer q r, settled V q.prov r))
+      → Tells names turn V (uses live_test r) (after_use V q.prov r) → C z (scalar_by w bytes s p t (live_answer q r, after_use V q.prov r))
   loaded-by z w bytes s p t q V (Ok tried) f a pairs u =
       let T = w.memory.table in
-      let U = settled V q.prov (Ok tried) in
+      let U = after_use V q.prov (Ok tried) in
       let same : pairings T U ≡ pairings T V = settled_paired T V q.prov (Ok tried) in
-      let all : Tells names turn z.memory.table ((t.events ++ pairings T U) ++ used live_test tried) U = tells-trans (tells-trans a.tells (subst (λ es. Tells names turn T es V) (sym same) pairs)) u in
+      let all : Tells names turn z.memory.table ((t.events ++ pairings T U) ++ event_of_use live_test tried) U = tells-trans (tells-trans a.tells (subst (λ es. Tells names turn T es V) (sym same) pairs)) u in
       record { comes = record { tells = tells-exposures f.none all showing-itself; named = a.named } }
   loaded-by z w bytes s p t q V (Err m) f a pairs u = record { comes = passed_told f a.tells }
 
@@ -161,7 +161,7 @@ module _ (names : List (List ℕ)) (distinct : AreDistinct names) (turn : ℕ) w
   exposing_pairs T i None = refl
   exposing_pairs T i (Some x) = by (x.live && not x.exposed)
     where
-      by : (b : Bool) → (cond b (record T { instances = with_instance T.instances i (shown x); pending = T.pending ++ i ∷ [] }) T).pairs ≡ T.pairs
+      by : (b : Bool) → (cond b (record T { instances = with_instance T.instances i (exposure_from x); pending = T.pending ++ i ∷ [] }) T).pairs ≡ T.pairs
       by true = refl
       by false = refl
 
@@ -179,7 +179,7 @@ module _ (names : List (List ℕ)) (distinct : AreDistinct names) (turn : ℕ) w
   exposed-shows T [] = showing-itself
   exposed-shows T (b ∷ bs) = showing-trans (expose-shows names distinct turn T b.prov) (exposed-shows (expose T b.prov) bs)
 
-  shown-as : (z w : World) (bytes : List Byte) (s : Shape) (p : Option Prov) (t : Told) (v : Value) → Fine names z → Answered names turn z t.events w → C z (scalar_by w bytes s p t (Ok (v, untried), exposed_by w.memory.table bytes))
+  shown-as : (z w : World) (bytes : List Byte) (s : Shape) (p : Option Prov) (t : Told) (v : Value) → Fine names z → Answered names turn z t.events w → C z (scalar_by w bytes s p t (Ok (v, empty_use), exposed_by w.memory.table bytes))
   shown-as z w bytes s p t v f h =
       let T = w.memory.table in
       let V = exposed_by T bytes in
@@ -201,7 +201,7 @@ module _ (names : List (List ℕ)) (distinct : AreDistinct names) (turn : ℕ) w
 
   pub takes-come : (offset size : ℕ) (s : Shape) (v : Worth) (w : World) → Fine names w → AreNumbered (bytes_of v) → C w (takes_bytes offset size s v w)
   takes-come offset size s v w f n =
-      unless-comes names distinct turn (unpresent v) w _ (worth-comes w w (take size (drop offset (bytes_of v))) s None None quiet f (record { tells = tells-itself; named = λ n. n })
+      unless-comes names distinct turn (why_missing v) w _ (worth-comes w w (take size (drop offset (bytes_of v))) s None None no_telling f (record { tells = tells-itself; named = λ n. n })
       (all_take (λ (x : Byte). IsNumbered x.prov) size (drop offset (bytes_of v)) (all_drop (λ (x : Byte). IsNumbered x.prov) offset (bytes_of v) n)))
 
   -- instances
@@ -211,21 +211,21 @@ module _ (names : List (List ℕ)) (distinct : AreDistinct names) (turn : ℕ) w
   object-made w o lasting name ((Err e), M) t n = record { comes = passed_none }
 
   pub object-comes : (o : ℕ) (lasting : Bool) (r : Request) (w : World) → IsAsked names r → C w (makes_object o lasting r w)
-  object-comes o lasting r w asked = object-made w o lasting r.name (created w.memory r) (created-tells names distinct turn w.memory r asked) (created_named w.memory r)
+  object-comes o lasting r w asked = object-made w o lasting r.name (creation w.memory r) (created-tells names distinct turn w.memory r asked) (created_named w.memory r)
 
   function-made : (w : World) (f name : ℕ) (got : Result ℕ CreateError × Mem) → Creates names distinct turn w.memory got → (Named w.memory.bytes → Named got.1.bytes) → C w (function_made w f name got)
   function-made w f name ((Ok i), M) t n = record { comes = record { tells = t; named = n } }
   function-made w f name ((Err e), M) t n = record { comes = passed_none }
 
   pub function-comes : (f : ℕ) (r : Request) (w : World) → IsAsked names r → C w (makes_function f r w)
-  function-comes f r w asked = function-made w f r.name (created w.memory r) (created-tells names distinct turn w.memory r asked) (created_named w.memory r)
+  function-comes f r w asked = function-made w f r.name (creation w.memory r) (created-tells names distinct turn w.memory r asked) (created_named w.memory r)
 
   literal-made : (w : World) (l : ℕ) (bytes : List ℕ) (got : Result ℕ CreateError × Mem) → Creates names distinct turn w.memory got → (Named w.memory.bytes → Named got.1.bytes) → C w (literal_made w l bytes got)
-  literal-made w l bytes ((Ok i), M) t n = record { comes = record { tells = t; named = λ h. named_written M.bytes _ (plain None 0 bytes) (plain_numbered None 0 bytes) (n h) } }
+  literal-made w l bytes ((Ok i), M) t n = record { comes = record { tells = t; named = λ h. named_written M.bytes _ (number_bytes None 0 bytes) (plain_numbered None 0 bytes) (n h) } }
   literal-made w l bytes ((Err e), M) t n = record { comes = passed_none }
 
   pub literal-comes : (l : ℕ) (text bytes : List ℕ) (w : World) → IsAsked names (literal_request text bytes) → C w (makes_literal_of l text bytes w)
-  literal-comes l text bytes w asked = literal-made w l bytes (created w.memory (literal_request text bytes)) (created-tells names distinct turn w.memory (literal_request text bytes) asked) (created_named w.memory (literal_request text bytes))
+  literal-comes l text bytes w asked = literal-made w l bytes (creation w.memory (literal_request text bytes)) (created-tells names distinct turn w.memory (literal_request text bytes) asked) (created_named w.memory (literal_request text bytes))
 
   pub ends-come : (w : World) (i : ℕ) (x : Instance) → instance_at w.memory.table.instances i ≡ Some x → x.live ≡ true → C w (ends_instance w i)
   ends-come w i x at live = record { comes = record { tells = ends-tells names distinct turn w.memory.table i x at live; named = without_named w.memory i } }

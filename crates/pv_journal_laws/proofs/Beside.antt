@@ -8,14 +8,14 @@ use Rattle.pv_prov.specs.declared.pairs.Twin.{Twin}
 use Rattle.pv_prov.specs.declared.names.Prov.{Prov}
 use Rattle.pv_prov.specs.declared.names.Prov.TheVariants as prov
 use Rattle.pv_prov.specs.declared.names.Stands.{Stands}
-use Rattle.pv_prov.specs.Names.{twin_at, kept, stands, stands_of}
+use Rattle.pv_prov.specs.Names.{twin_at, after_narrowing, stands, stands_of}
 use Rattle.pv_prov.specs.NameParts.{keeping, those_kept}
 use Rattle.pv_inst.specs.declared.values.Instance.{Instance}
 use Rattle.pv_inst.specs.declared.values.Tried.{Tried}
 use Rattle.pv_inst.specs.declared.values.Miss.{Miss}
 use Rattle.pv_inst.specs.declared.values.Test.TheVariants.{Live}
 use Rattle.pv_inst.specs.Table.{Table, instance_at, IsMadeIn}
-use Rattle.pv_inst.specs.Use.{settled, if_two, survives}
+use Rattle.pv_inst.specs.Use.{after_use, if_two, survives}
 use Rattle.pv_inst.specs.SameParts.{made_passes}
 use Rattle.pv_inst.specs.TwoPointers.{in_common, is_number, tried_beside, same_miss, same_state, after_same, after_left, same_left, same_right}
 use Rattle.pv_inst.specs.Answers.{CanKeep}
@@ -24,7 +24,7 @@ use Rattle.pv_inst.specs.WellFormed.{HasMet}
 use Rattle.pv_inst.proofs.Together.{Common, common_found, left_can, right_can}
 use Rattle.pv_watch.specs.declared.event.What.{What}
 use Rattle.pv_watch.specs.declared.event.What.TheVariants as what
-use Rattle.pv_world.specs.Telling.{used, both_used, same_test, each_paired, pairings}
+use Rattle.pv_world.specs.Telling.{event_of_use, both_used, same_test, each_paired, pairings}
 use Rattle.pv_exec.proofs.Memory.Rows.{kept-led}
 use Rattle.pv_journal_laws.proofs.Telling.{IsNumbered}
 use Rattle.pv_journal_laws.proofs.Sames.{keep_tells}
@@ -45,7 +45,7 @@ module _ (names : List (List ℕ)) (distinct : AreDistinct names) (turn : ℕ) w
   pair-keeps : (T : Table) (k : ℕ) (other : Stands) → 1 ≤ k → CanKeep T (prov.Pair k) (tried_beside T (prov.Pair k) other) → (o : Option Twin) → twin_at T.pairs k ≡ o
       → let tried : Tried = record { pair = if_two k (stands_of o); low = in_common T.instances (stands_of o).low other; high = in_common T.instances (stands_of o).high other } in
       ((tried.low ≡ true) ⊎ (tried.high ≡ true)) × (tried.low ≡ true → IfSome (twin_at T.pairs k) (λ t. IsTrue t.keeps_low)) × (tried.high ≡ true → IfSome (twin_at T.pairs k) (λ t. IsTrue t.keeps_high))
-      → Tells names turn T (used same_test tried) (settled T (prov.Pair k) (Ok tried))
+      → Tells names turn T (event_of_use same_test tried) (after_use T (prov.Pair k) (Ok tried))
   pair-keeps T k other one can None e may = record {
     led = kept-led T.instances T.pairs k false false may;
     zap = refl;
@@ -70,7 +70,7 @@ module _ (names : List (List ℕ)) (distinct : AreDistinct names) (turn : ℕ) w
   }
 
   -- a use beside another operand
-  beside-tells : (T : Table) (p : Prov) (other : Stands) → IsNumbered p → CanKeep T p (tried_beside T p other) → Tells names turn T (used same_test (tried_beside T p other)) (settled T p (Ok (tried_beside T p other)))
+  beside-tells : (T : Table) (p : Prov) (other : Stands) → IsNumbered p → CanKeep T p (tried_beside T p other) → Tells names turn T (event_of_use same_test (tried_beside T p other)) (after_use T p (Ok (tried_beside T p other)))
   unfolding tried_beside
   beside-tells T prov.Empty other one can = tells-itself
   beside-tells T (prov.Inst i) other one can = tells-itself
@@ -109,7 +109,7 @@ alike_set [] i t u e l h = tt
 alike_set (v ∷ ts) zero t u e l h = let same : v ≡ t = same_Some v t e in (ap (λ (z : Twin). z.low) same ∙ l, ap (λ (z : Twin). z.high) same ∙ h, alike_itself ts)
 alike_set (v ∷ ts) (suc i) t u e l h = (refl, refl, alike_set ts i t u e l h)
 
-alike_kept : (ts : List Twin) (k : ℕ) (low high : Bool) → Alike ts (kept ts k low high)
+alike_kept : (ts : List Twin) (k : ℕ) (low high : Bool) → Alike ts (after_narrowing ts k low high)
 alike_kept ts k low high = by (twin_at ts k) refl
   where
     by : (o : Option Twin) → twin_at ts k ≡ o → Alike ts (keeping o ts k low high)
@@ -131,13 +131,13 @@ alike_paired T U k (t ∷ ts) (u ∷ us) e h =
     λ n. what.Pair k (base_of (instance_at (e n) (h.1 n))) (h.0 n) (h.1 n) ∷ alike_paired T U (k + 1) ts us e h.2 n
 
 -- what a use settles is the same pairs
-pub settled_paired : (T U : Table) (p : Prov) (r : Result Tried Miss) → pairings T (settled U p r) ≡ pairings T U
+pub settled_paired : (T U : Table) (p : Prov) (r : Result Tried Miss) → pairings T (after_use U p r) ≡ pairings T U
 settled_paired T U prov.Empty r = refl
 settled_paired T U (prov.Inst i) r = refl
 settled_paired T U (prov.Pair k) (Err m) = refl
 settled_paired T U (prov.Pair k) (Ok tried) =
-    sym (alike_paired U (record U { pairs = kept U.pairs k tried.low tried.high }) (length T.pairs + 1) (drop (length T.pairs) U.pairs) (drop (length T.pairs) (kept U.pairs k tried.low tried.high)) refl
-    (alike_drop (length T.pairs) U.pairs (kept U.pairs k tried.low tried.high) (alike_kept U.pairs k tried.low tried.high)))
+    sym (alike_paired U (record U { pairs = after_narrowing U.pairs k tried.low tried.high }) (length T.pairs + 1) (drop (length T.pairs) U.pairs) (drop (length T.pairs) (after_narrowing U.pairs k tried.low tried.high)) refl
+    (alike_drop (length T.pairs) U.pairs (after_narrowing U.pairs k tried.low tried.high) (alike_kept U.pairs k tried.low tried.high)))
 
 -- where no pair was made, none is told
 pub none_paired : (T U : Table) → U.pairs ≡ T.pairs → pairings T U ≡ []

@@ -11,11 +11,11 @@ use Rattle.pv_inst.specs.declared.values.Test.{Test}
 use Rattle.pv_inst.specs.declared.values.Tried.{Tried}
 use Rattle.pv_inst.specs.declared.values.Miss.{Miss}
 use Rattle.pv_inst.specs.Table.{Table, instance_at, with_instance}
-use Rattle.pv_inst.specs.Use.{use_answer, settled, test_number}
+use Rattle.pv_inst.specs.Use.{use_answer, after_use, test_number}
 use Rattle.pv_inst.specs.WellFormed.{IsPlaced}
 use Rattle.pv_inst.specs.Exposure.{expose, expose_one, exposing}
-use Rattle.pv_inst.specs.ExposureParts.{shown}
-use Rattle.pv_inst.specs.Ending.{ended}
+use Rattle.pv_inst.specs.ExposureParts.{exposure_from}
+use Rattle.pv_inst.specs.Ending.{after_end}
 use Rattle.pv_inst.specs.EndingParts.{ending, over}
 use Rattle.pv_inst.specs.Finding.{after_name, table_by, both_found, number_of as first_number, reaches, begins, fitting}
 use Rattle.pv_inst.proofs.Rows.{row_found}
@@ -139,14 +139,14 @@ tells-exposures {names} {turn} {T} {U} {V} {es} none h g =
 
 module _ (names : List (List ℕ)) (distinct : AreDistinct names) (turn : ℕ) where
   -- a use
-  settled-tells : (T : Table) (p : Prov) (n : ℕ) (r : Result Tried Miss) → Leads (Unit {0}) T (settled T p r)
-      → (Sane names T → told_from names (at_table names turn false T) (uses n r) ≡ Some (state_of names turn false T.instances (settled T p r).pairs)) → Tells names turn T (uses n r) (settled T p r)
+  settled-tells : (T : Table) (p : Prov) (n : ℕ) (r : Result Tried Miss) → Leads (Unit {0}) T (after_use T p r)
+      → (Sane names T → told_from names (at_table names turn false T) (uses n r) ≡ Some (state_of names turn false T.instances (after_use T p r).pairs)) → Tells names turn T (uses n r) (after_use T p r)
   settled-tells T prov.Empty n r led told = record { led = led; zap = refl; pending = refl; called = λ c. c; told = λ s f. told s }
   settled-tells T (prov.Inst i) n r led told = record { led = led; zap = refl; pending = refl; called = λ c. c; told = λ s f. told s }
   settled-tells T (prov.Pair k) n (Ok tried) led told = record { led = led; zap = refl; pending = refl; called = λ c. c; told = λ s f. told s }
   settled-tells T (prov.Pair k) n (Err m) led told = record { led = led; zap = refl; pending = refl; called = λ c. c; told = λ s f. told s }
 
-  pub use-tells : (T : Table) (p : Prov) (t : Test) → IsNumbered p → Tells names turn T (uses (test_number t) (use_answer T p t)) (settled T p (use_answer T p t))
+  pub use-tells : (T : Table) (p : Prov) (t : Test) → IsNumbered p → Tells names turn T (uses (test_number t) (use_answer T p t)) (after_use T p (use_answer T p t))
   use-tells T p t numbered =
       settled-tells T p (test_number t) (use_answer T p t) (use-leads T p t) (λ s. use_passes_told names distinct turn false T p t s.zap s.called (sane_filled s) s.sound.met numbered)
 
@@ -190,11 +190,11 @@ module _ (names : List (List ℕ)) (distinct : AreDistinct names) (turn : ℕ) w
   one-exposing T i None e = record { led = led-itself; zap = refl; called = λ c. c }
   one-exposing T i (Some x) e = by (x.live && not x.exposed)
     where
-      by : (b : Bool) → Exposing T (cond b (record T { instances = with_instance T.instances i (shown x); pending = T.pending ++ i ∷ [] }) T)
+      by : (b : Bool) → Exposing T (cond b (record T { instances = with_instance T.instances i (exposure_from x); pending = T.pending ++ i ∷ [] }) T)
       by true = record {
-        led = row-led T.instances T.pairs i x (shown x) (row_found T.instances i x (sym e)) (record { name = refl; k = refl; base = refl; size = refl; kind = refl; lived = λ e. e; exposed = λ e. refl });
+        led = row-led T.instances T.pairs i x (exposure_from x) (row_found T.instances i x (sym e)) (record { name = refl; k = refl; base = refl; size = refl; kind = refl; lived = λ e. e; exposed = λ e. refl });
         zap = refl;
-        called = λ c. called_row names T.instances T.counts i x (shown x) (row_found T.instances i x (sym e)) refl refl refl c;
+        called = λ c. called_row names T.instances T.counts i x (exposure_from x) (row_found T.instances i x (sym e)) refl refl refl c;
       }
       by false = record { led = led-itself; zap = refl; called = λ c. c }
 
@@ -225,5 +225,5 @@ module _ (names : List (List ℕ)) (distinct : AreDistinct names) (turn : ℕ) w
     told = λ s f. told s;
   }
 
-  pub ends-tells : (T : Table) (i : ℕ) (x : Instance) → instance_at T.instances i ≡ Some x → x.live ≡ true → Tells names turn T (what.Ended i ∷ []) (ended T i)
+  pub ends-tells : (T : Table) (i : ℕ) (x : Instance) → instance_at T.instances i ≡ Some x → x.live ≡ true → Tells names turn T (what.Ended i ∷ []) (after_end T i)
   ends-tells T i x at live = ends-by T i x live (instance_at T.instances i) refl at (ended-leads T i) (λ s. end_passes_told names distinct turn false T i x s.called at live)

@@ -16,23 +16,23 @@ use Rattle.pv_inst.specs.declared.values.Tried.{Tried}
 use Rattle.pv_inst.specs.declared.values.Miss.{Miss}
 use Rattle.pv_inst.specs.declared.values.Test.TheVariants.{Live, Range, Code}
 use Rattle.pv_inst.specs.Table.{Table, IsMadeIn}
-use Rattle.pv_inst.specs.Use.{use_answer, settled}
+use Rattle.pv_inst.specs.Use.{use_answer, after_use}
 use Rattle.pv_inst.specs.TwoPointers.{same_miss, same_by, same_state}
 use Rattle.pv_object.specs.declared.values.Pointer.{Pointer}
 use Rattle.pv_object.specs.declared.values.Stop.{Stop}
 use Rattle.pv_object.specs.declared.values.Value.{Value}
 use Rattle.pv_object.specs.declared.values.Value.TheVariants.{Int as IntValue, Unset, Pointer as PointerValue}
-use Rattle.pv_object.specs.Access.{chosen, is_null}
+use Rattle.pv_object.specs.Access.{first_survivor, is_null}
 use Rattle.pv_object.specs.Operations.{to_ptr, recast_by as recast_or_stop, to_int_after, exposed_to, move_under, moved_to, code_in}
-use Rattle.pv_object.specs.OperationParts.{truth_by as truth_or_stop, moved, moved_by as moved_or_stop, code_at, both_or_stop}
+use Rattle.pv_object.specs.OperationParts.{truth_by as truth_or_stop, address_on, moved_by as moved_or_stop, code_at, both_or_stop}
 use Rattle.pv_watch.specs.declared.event.What.{What}
 use Rattle.pv_world.specs.declared.got.How.{How}
 use Rattle.pv_world.specs.declared.got.How.TheVariants.{Rounds, Passes, Tests, Numbers, Points, Recasts, Voids}
 use Rattle.pv_world.specs.Worlds.{Worth, Nothing, Missing, Scalar, Whole, World, Wrong, with_table}
-use Rattle.pv_world.specs.Telling.{quiet, telling, used, uses, live_use, live_test, code_test}
+use Rattle.pv_world.specs.Telling.{no_telling, telling, event_of_use, uses, live_use, live_test, code_test}
 use Rattle.pv_world.specs.Doing.{Done, Answers, Fails, Breaks}
-use Rattle.pv_world.specs.Worths.{truth_int, int_of, pointer_of, unless, unplain, unpresent, computed}
-use Rattle.pv_world.specs.Conversions.{truth_by, truth_value, truth_worth, tests, number_by, pointed, recast_by, passes, converts}
+use Rattle.pv_world.specs.Worths.{truth_int, int_of, pointer_of, unless, why_not_set, why_missing, arithmetic_result}
+use Rattle.pv_world.specs.Conversions.{truth_by, truth_value, truth_worth, tests, number_by, pointer_by_number, recast_by, passes, converts}
 use Rattle.pv_world.specs.Calculations.{follows_to}
 use Rattle.pv_world.specs.CalculationParts.{calculates, calculates_one}
 use Rattle.pv_world.specs.Pointers.{moved_by, distance, moves, elements_by, between_by, found_by, finds}
@@ -96,21 +96,21 @@ module _ (names : List (List ℕ)) (distinct : AreDistinct names) (turn : ℕ) w
   tabled : {w : World} {es : List What} {T : Table} (v : Worth) → Tells names turn w.memory.table es T → C w (Answers v (with_table w T) (telling es))
   tabled v t = record { comes = record { tells = t; named = λ n. n } }
 
-  pub still : (w : World) (v : Worth) → C w (Answers v w quiet)
+  pub still : (w : World) (v : Worth) → C w (Answers v w no_telling)
   still w v = record { comes = answered_none }
 
-  pub stops : (w x : World) (y : Wrong) (p : Option Prov) → C w (Fails y p x quiet)
+  pub stops : (w x : World) (y : Wrong) (p : Option Prov) → C w (Fails y p x no_telling)
   stops w x y p = record { comes = passed_none }
 
   pub unless-comes : (o : Option Wrong) (w : World) (d : Done) → C w d → C w (unless o w d)
   unless-comes None w d h = h
   unless-comes (Some y) w d h = stops w w y None
 
-  live-tells : (T : Table) (p : Pointer) → IsNumbered p.prov → Tells names turn T (live_use T p) (settled T p.prov (use_answer T p.prov Live))
+  live-tells : (T : Table) (p : Pointer) → IsNumbered p.prov → Tells names turn T (live_use T p) (after_use T p.prov (use_answer T p.prov Live))
   live-tells T p n = use-tells names distinct turn T p.prov Live n
 
   -- conversions
-  truth-by : (w : World) (p : Pointer) (give : Bool → Worth) (r : Result Tried Miss) → Tells names turn w.memory.table (uses live_test r) (settled w.memory.table p.prov r) → C w (truth_by w p (truth_or_stop p r, settled w.memory.table p.prov r) give)
+  truth-by : (w : World) (p : Pointer) (give : Bool → Worth) (r : Result Tried Miss) → Tells names turn w.memory.table (uses live_test r) (after_use w.memory.table p.prov r) → C w (truth_by w p (truth_or_stop p r, after_use w.memory.table p.prov r) give)
   truth-by w p give (Ok tried) t = tabled _ t
   truth-by w p give (Err m) t = stops w _ _ _
 
@@ -126,26 +126,26 @@ module _ (names : List (List ℕ)) (distinct : AreDistinct names) (turn : ℕ) w
   truth-worth w give (Whole bs a) h = still w _
 
   pub tests-come : (give : Bool → Worth) (v : Worth) (w : World) → IsNumbered (pointer_of v).prov → C w (tests give v w)
-  tests-come give v w h = unless-comes (unplain v) w (truth_worth w give v) (truth-worth w give v h)
+  tests-come give v w h = unless-comes (why_not_set v) w (truth_worth w give v) (truth-worth w give v h)
 
-  number-fits : (w : World) (p : Pointer) (b : Bool) (tried : Tried) → Fine names w → Tells names turn w.memory.table (live_use w.memory.table p) (settled w.memory.table p.prov (Ok tried))
-      → C w (number_by w p (exposed_to (settled w.memory.table p.prov (Ok tried)) p b tried))
-  number-fits w p true tried f t = record { comes = record { tells = tells-exposures f.none t (expose-shows names distinct turn (settled w.memory.table p.prov (Ok tried)) p.prov); named = λ n. n } }
+  number-fits : (w : World) (p : Pointer) (b : Bool) (tried : Tried) → Fine names w → Tells names turn w.memory.table (live_use w.memory.table p) (after_use w.memory.table p.prov (Ok tried))
+      → C w (number_by w p (exposed_to (after_use w.memory.table p.prov (Ok tried)) p b tried))
+  number-fits w p true tried f t = record { comes = record { tells = tells-exposures f.none t (expose-shows names distinct turn (after_use w.memory.table p.prov (Ok tried)) p.prov); named = λ n. n } }
   number-fits w p false tried f t = record { comes = passed_told f t }
 
-  number-by : (w : World) (p : Pointer) (k : IntKind) (r : Result Tried Miss) → Fine names w → Tells names turn w.memory.table (live_use w.memory.table p) (settled w.memory.table p.prov r) → C w (number_by w p (to_int_after w.memory.table p k r))
+  number-by : (w : World) (p : Pointer) (k : IntKind) (r : Result Tried Miss) → Fine names w → Tells names turn w.memory.table (live_use w.memory.table p) (after_use w.memory.table p.prov r) → C w (number_by w p (to_int_after w.memory.table p k r))
   number-by w p k (Err m) f t = record { comes = passed_told f t }
   number-by w p k (Ok tried) f t = number-fits w p (fits_of k (pos p.address)) tried f t
 
-  pointed-comes : (w : World) (n : ℤ) → C w (pointed w (to_ptr w.memory.table n))
+  pointed-comes : (w : World) (n : ℤ) → C w (pointer_by_number w (to_ptr w.memory.table n))
   pointed-comes w n = tabled _ (name-tells names distinct turn w.memory.table _)
 
   recast-fits : (w : World) (p : Pointer) (b : Bool) (tried : Tried) (y : Stop) (T : Table) → Fine names w → Tells names turn w.memory.table (live_use w.memory.table p) T → C w (recast_by w p (cond b (Ok tried) (Err y), T))
   recast-fits w p true tried y T f t = tabled _ t
   recast-fits w p false tried y T f t = record { comes = passed_told f t }
 
-  recast-by : (w : World) (p : Pointer) (n : ℕ) (r : Result Tried Miss) → Fine names w → Tells names turn w.memory.table (live_use w.memory.table p) (settled w.memory.table p.prov r) → C w (recast_by w p (recast_or_stop p n r, settled w.memory.table p.prov r))
-  recast-by w p n (Ok tried) f t = recast-fits w p _ tried _ (settled w.memory.table p.prov (Ok tried)) f t
+  recast-by : (w : World) (p : Pointer) (n : ℕ) (r : Result Tried Miss) → Fine names w → Tells names turn w.memory.table (live_use w.memory.table p) (after_use w.memory.table p.prov r) → C w (recast_by w p (recast_or_stop p n r, after_use w.memory.table p.prov r))
+  recast-by w p n (Ok tried) f t = recast-fits w p _ tried _ (after_use w.memory.table p.prov (Ok tried)) f t
   recast-by w p n (Err m) f t = record { comes = passed_told f t }
 
   passes-come : (k : IntKind) (w : World) (v : Worth) → C w (passes k w v)
@@ -155,31 +155,31 @@ module _ (names : List (List ℕ)) (distinct : AreDistinct names) (turn : ℕ) w
   passes-come k w (Whole bs a) = still w _
 
   pub converts-come : (how : How) (v : Worth) (w : World) → Fine names w → IsNumbered (pointer_of v).prov → C w (converts how v w)
-  converts-come (Rounds k) v w f h = unless-comes (unplain v) w _ (still w _)
-  converts-come (Passes k) v w f h = unless-comes (unpresent v) w _ (passes-come k w v)
+  converts-come (Rounds k) v w f h = unless-comes (why_not_set v) w _ (still w _)
+  converts-come (Passes k) v w f h = unless-comes (why_missing v) w _ (passes-come k w v)
   converts-come Tests v w f h = tests-come truth_int v w h
-  converts-come (Numbers k) v w f h = unless-comes (unplain v) w _ (number-by w (pointer_of v) k (use_answer w.memory.table (pointer_of v).prov Live) f (live-tells w.memory.table (pointer_of v) h))
-  converts-come Points v w f h = unless-comes (unplain v) w _ (pointed-comes w (int_of v))
-  converts-come (Recasts n) v w f h = unless-comes (unplain v) w _ (recast-by w (pointer_of v) n (use_answer w.memory.table (pointer_of v).prov Live) f (live-tells w.memory.table (pointer_of v) h))
+  converts-come (Numbers k) v w f h = unless-comes (why_not_set v) w _ (number-by w (pointer_of v) k (use_answer w.memory.table (pointer_of v).prov Live) f (live-tells w.memory.table (pointer_of v) h))
+  converts-come Points v w f h = unless-comes (why_not_set v) w _ (pointed-comes w (int_of v))
+  converts-come (Recasts n) v w f h = unless-comes (why_not_set v) w _ (recast-by w (pointer_of v) n (use_answer w.memory.table (pointer_of v).prov Live) f (live-tells w.memory.table (pointer_of v) h))
   converts-come Voids v w f h = still w _
 
   -- operators on integers
-  computed-comes : (w : World) (r : Result ℤ ArithmeticFault) → C w (computed w r)
+  computed-comes : (w : World) (r : Result ℤ ArithmeticFault) → C w (arithmetic_result w r)
   computed-comes w (Ok n) = still w _
   computed-comes w (Err y) = stops w w _ _
 
   pub calculates-come : (op : BinOp) (k : IntKind) (v x : Worth) (w : World) → C w (calculates op k v x w)
-  calculates-come op k v x w = unless-comes (unplain v) w _ (unless-comes (unplain x) w _ (computed-comes w (binary_of op k (int_of v) (int_of x))))
+  calculates-come op k v x w = unless-comes (why_not_set v) w _ (unless-comes (why_not_set x) w _ (computed-comes w (binary_of op k (int_of v) (int_of x))))
 
   pub calculates-one-come : (op : UnOp) (k : IntKind) (v : Worth) (w : World) → C w (calculates_one op k v w)
-  calculates-one-come op k v w = unless-comes (unplain v) w _ (computed-comes w (unary_of op k (int_of v)))
+  calculates-one-come op k v w = unless-comes (why_not_set v) w _ (computed-comes w (unary_of op k (int_of v)))
 
   pub follows-come : (nothing : Bool) (v : Worth) (w : World) → C w (follows_to nothing v w)
-  follows-come true v w = unless-comes (unpresent v) w _ (still w _)
-  follows-come false v w = unless-comes (unpresent v) w _ (still w _)
+  follows-come true v w = unless-comes (why_missing v) w _ (still w _)
+  follows-come false v w = unless-comes (why_missing v) w _ (still w _)
 
   -- operations on pointers
-  moved-to : (w : World) (p : Pointer) (c : Clause) (a : ℕ) (r : Result Tried Miss) → Tells names turn w.memory.table (uses 2 r) (settled w.memory.table p.prov r) → C w (moved_by w p (moved_or_stop c p a r, settled w.memory.table p.prov r))
+  moved-to : (w : World) (p : Pointer) (c : Clause) (a : ℕ) (r : Result Tried Miss) → Tells names turn w.memory.table (uses 2 r) (after_use w.memory.table p.prov r) → C w (moved_by w p (moved_or_stop c p a r, after_use w.memory.table p.prov r))
   moved-to w p c a (Ok tried) t = tabled _ t
   moved-to w p c a (Err m) t = stops w _ _ _
 
@@ -190,28 +190,28 @@ module _ (names : List (List ℕ)) (distinct : AreDistinct names) (turn : ℕ) w
   moved-comes : (w : World) (p : Pointer) (c : Clause) (by : ℤ) → IsNumbered p.prov → C w (moved_by w p (move_under c w.memory.table p by))
   moved-comes w p c by h =
       moved-if w p (is_null p) _ _ (stops w _ _ _)
-      (moved-if w p (is_empty p.prov) _ (moved_to c w.memory.table p (moved p.address by)) (stops w _ _ _)
-      (moved-to w p c (moved p.address by) (use_answer w.memory.table p.prov (Range (moved p.address by) 0)) (use-tells names distinct turn w.memory.table p.prov (Range (moved p.address by) 0) h)))
+      (moved-if w p (is_empty p.prov) _ (moved_to c w.memory.table p (address_on p.address by)) (stops w _ _ _)
+      (moved-to w p c (address_on p.address by) (use_answer w.memory.table p.prov (Range (address_on p.address by) 0)) (use-tells names distinct turn w.memory.table p.prov (Range (address_on p.address by) 0) h)))
 
   pub moves-come : (minus first : Bool) (size : ℕ) (v x : Worth) (w : World) → IsNumbered (pointer_of v).prov → IsNumbered (pointer_of x).prov → C w (moves minus first size v x w)
-  moves-come minus true size v x w h g = unless-comes (unplain v) w _ (unless-comes (unplain x) w _ (moved-comes w (pointer_of v) AdditionOfPointers (distance minus size (int_of x)) h))
-  moves-come minus false size v x w h g = unless-comes (unplain v) w _ (unless-comes (unplain x) w _ (moved-comes w (pointer_of x) AdditionOfPointers (distance minus size (int_of v)) g))
+  moves-come minus true size v x w h g = unless-comes (why_not_set v) w _ (unless-comes (why_not_set x) w _ (moved-comes w (pointer_of v) AdditionOfPointers (distance minus size (int_of x)) h))
+  moves-come minus false size v x w h g = unless-comes (why_not_set v) w _ (unless-comes (why_not_set x) w _ (moved-comes w (pointer_of x) AdditionOfPointers (distance minus size (int_of v)) g))
 
   pub selects-come : (offset : ℕ) (v : Worth) (w : World) → IsNumbered (pointer_of v).prov → C w (selects offset v w)
-  selects-come offset v w h = unless-comes (unpresent v) w _ (moved-comes w (pointer_of v) Indirection (pos offset) h)
+  selects-come offset v w h = unless-comes (why_missing v) w _ (moved-comes w (pointer_of v) Indirection (pos offset) h)
 
   found-in : (w : World) (T : Table) (p : Pointer) (b : Bool) (v : Worth) (us : List What) → Fine names w → Tells names turn w.memory.table us T
       → C w (if b then Answers v (with_table w T) (telling us) else Fails unlike (Some p.prov) (with_table w T) (telling us))
   found-in w T p true v us f t = tabled v t
   found-in w T p false v us f t = record { comes = passed_told f t }
 
-  found-at : (w : World) (p : Pointer) (fits : Option ℕ → Bool) (o : Option ℕ) (tried : Tried) → Fine names w → Tells names turn w.memory.table (used code_test tried) (settled w.memory.table p.prov (Ok tried))
-      → C w (found_by w p fits (code_in o tried, settled w.memory.table p.prov (Ok tried)))
+  found-at : (w : World) (p : Pointer) (fits : Option ℕ → Bool) (o : Option ℕ) (tried : Tried) → Fine names w → Tells names turn w.memory.table (event_of_use code_test tried) (after_use w.memory.table p.prov (Ok tried))
+      → C w (found_by w p fits (code_in o tried, after_use w.memory.table p.prov (Ok tried)))
   found-at w p fits None tried f t = stops w _ _ _
-  found-at w p fits (Some i) tried f t = found-in w (settled w.memory.table p.prov (Ok tried)) p (fits (owner_of w i)) _ (used code_test tried) f t
+  found-at w p fits (Some i) tried f t = found-in w (after_use w.memory.table p.prov (Ok tried)) p (fits (owner_of w i)) _ (event_of_use code_test tried) f t
 
-  found-to : (w : World) (p : Pointer) (fits : Option ℕ → Bool) (r : Result Tried Miss) → Fine names w → Tells names turn w.memory.table (uses code_test r) (settled w.memory.table p.prov r) → C w (found_by w p fits (code_at w.memory.table p r))
-  found-to w p fits (Ok tried) f t = found-at w p fits (chosen (stands w.memory.table.pairs p.prov) tried) tried f t
+  found-to : (w : World) (p : Pointer) (fits : Option ℕ → Bool) (r : Result Tried Miss) → Fine names w → Tells names turn w.memory.table (uses code_test r) (after_use w.memory.table p.prov r) → C w (found_by w p fits (code_at w.memory.table p r))
+  found-to w p fits (Ok tried) f t = found-at w p fits (first_survivor (stands w.memory.table.pairs p.prov) tried) tried f t
   found-to w p fits (Err m) f t = stops w _ _ _
 
   found-if : (w : World) (p : Pointer) (fits : Option ℕ → Bool) (b : Bool) (x y : Result (ℕ × Tried) Stop × Table) → C w (found_by w p fits x) → C w (found_by w p fits y) → C w (found_by w p fits (cond b x y))
@@ -221,7 +221,7 @@ module _ (names : List (List ℕ)) (distinct : AreDistinct names) (turn : ℕ) w
   pub finds-come : (fits : Option ℕ → Bool) (v : Worth) (w : World) → Fine names w → IsNumbered (pointer_of v).prov → C w (finds fits v w)
   finds-come fits v w f h =
       let p = pointer_of v in
-      unless-comes (unplain v) w _ (found-if w p fits (is_null p) _ _ (stops w _ _ _)
+      unless-comes (why_not_set v) w _ (found-if w p fits (is_null p) _ _ (stops w _ _ _)
       (found-if w p fits (is_empty p.prov) _ (code_at w.memory.table p (use_answer w.memory.table p.prov (Code p.address))) (stops w _ _ _)
       (found-to w p fits (use_answer w.memory.table p.prov (Code p.address)) f (use-tells names distinct turn w.memory.table p.prov (Code p.address) h))))
 

@@ -5,8 +5,8 @@ use Rattle.pv_journal_laws.specs.Naming.{AreDistinct}
 use Rattle.pv_inst.specs.declared.values.Instance.{Instance}
 use Rattle.pv_inst.specs.Table.{Table, instance_at, with_instance}
 use Rattle.pv_inst.specs.Exposure.{exposing, expose_one}
-use Rattle.pv_inst.specs.ExposureParts.{shown}
-use Rattle.pv_inst.specs.Ending.{ended}
+use Rattle.pv_inst.specs.ExposureParts.{exposure_from}
+use Rattle.pv_inst.specs.Ending.{after_end}
 use Rattle.pv_inst.specs.EndingParts.{ending}
 use Rattle.std.proofs.lemmas.Option.{none-some, same_Some}
 use Rattle.pv_inst.proofs.Rows.{row_found}
@@ -43,7 +43,7 @@ module _ (names : List (List ℕ)) (distinct : AreDistinct names) (turn : ℕ) (
   expose_passes_told T (Some i) = by (instance_at T.instances i) refl
     where
       at : (x : Instance) → instance_at T.instances i ≡ Some x → (b : Bool) → (x.live && not x.exposed) ≡ b
-          → Exposes T (cond b (record T { instances = with_instance T.instances i (shown x); pending = T.pending ++ i ∷ [] }) T)
+          → Exposes T (cond b (record T { instances = with_instance T.instances i (exposure_from x); pending = T.pending ++ i ∷ [] }) T)
       at x e true new = record {
         new = i ∷ [];
         pending = refl;
@@ -59,7 +59,7 @@ module _ (names : List (List ℕ)) (distinct : AreDistinct names) (turn : ℕ) (
 
   -- an end
   pub end_passes_told : (T : Table) (i : ℕ) (x : Instance) → AreCalled names T → instance_at T.instances i ≡ Some x → x.live ≡ true
-      → told_from names (at_table names turn past T) (what.Ended i ∷ []) ≡ Some (at_table names turn past (ended T i))
+      → told_from names (at_table names turn past T) (what.Ended i ∷ []) ≡ Some (at_table names turn past (after_end T i))
   end_passes_told T i x called at live =
       ap (λ o. option_and_then (λ t. Some t) (option_and_then (after_fact (at_table names turn past T)) (option_map Ended o))) (known_as names T.instances i x at)
       ∙ ap (option_and_then (λ t. Some t)) (end_passes names distinct turn past T i x called at (row_found T.instances i x (sym at)) live)

@@ -17,16 +17,16 @@ use Rattle.pv_lex.specs.Bytes.{is_white, is_letter, is_in, run, front, behind, b
 use Rattle.pv_lex.specs.Tables.{row_of, first_row}
 use Rattle.pv_lex.specs.Pieces.{What, White, Comment, Marker, Spelling, Piece, Stand, End, Bad, Here, ◌>>=◌, or_bad, token}
 use Rattle.pv_lex.specs.Words.{words, is_wide, is_quote, keyword_or_name, word_at}
-use Rattle.pv_lex.specs.Constants.{suffixes, sized, number_of, constant_of, number_at, value_from}
+use Rattle.pv_lex.specs.Constants.{suffixes, constant_of_value, number_of, constant_of, number_at, value_from}
 use Rattle.pv_lex.specs.ConstantParts.{fits_constant}
 use Rattle.pv_lex.specs.Characters.{character_at, character_constant, characters, string_literal}
 use Rattle.pv_lex.specs.CharacterParts.{closed_character}
 use Rattle.pv_lex.specs.Comments.{behind_close, block_comment}
-use Rattle.pv_lex.specs.Markers.{some_of, quoted, groups, marker}
+use Rattle.pv_lex.specs.Markers.{some_of, behind_quotes, groups, marker}
 use Rattle.pv_lex.specs.MarkerParts.{marker_piece, mark_row}
 use Rattle.pv_lex.specs.Marks.{marks, mark_at}
 use Rattle.pv_lex.specs.Stands.{stands}
-use Rattle.pv_lex.specs.Rows.{Place, Row, spelt, spelt_here, behind_piece}
+use Rattle.pv_lex.specs.Rows.{Place, Row, tokens_among, spelt_here, behind_piece}
 
 -- what is said as a name is an identifier
 abbrev pub IsPlain : Said → Type 0
@@ -113,7 +113,7 @@ mapped (Some a) f h = piece_some (f a) (h a)
 number_said : (base : ℕ) (digits suffix : List ℕ) → IfSaid (number_of base digits suffix)
 unfolding number_of
 number_said base [] suffix = said_none
-number_said base (d ∷ ds) suffix = said_then (row_of suffixes suffix) (sized base (value_from base 0 (d ∷ ds))) (λ s. said_if (fits_constant base (value_from base 0 (d ∷ ds)) s) (said_some _ tt) said_none)
+number_said base (d ∷ ds) suffix = said_then (row_of suffixes suffix) (constant_of_value base (value_from base 0 (d ∷ ds))) (λ s. said_if (fits_constant base (value_from base 0 (d ∷ ds)) s) (said_some _ tt) said_none)
 
 -- The enum of classes of bytes is the lexer's own, so `_` stands for it in what follows.
 constant_for : (h o d : _) (text : List ℕ) → IfSaid (if starts_with nat_eq text (codes "0x") || starts_with nat_eq text (codes "0X") then number_of 16 (front h (drop 2 text)) (behind h (drop 2 text))
@@ -149,12 +149,12 @@ number_marked : (digits after : List ℕ) → IfPiece (marker_piece digits after
 number_marked digits after =
     piece_if (nat_le (length digits) 10 && nat_le (value_from 10 0 digits) 2147483647) (piece_some (record { what = Marker (value_from 10 0 digits); after = after }) tt) piece_none
 
-marker_for : (k d : _) (text : List ℕ) → IfPiece (some_of k text >>= λ a. some_of d a.1 >>= λ n. some_of k n.1 >>= λ b. quoted b.1 >>= λ name. groups (length name) name >>= λ after. marker_piece n.0 after)
+marker_for : (k d : _) (text : List ℕ) → IfPiece (some_of k text >>= λ a. some_of d a.1 >>= λ n. some_of k n.1 >>= λ b. behind_quotes b.1 >>= λ name. groups (length name) name >>= λ after. marker_piece n.0 after)
 marker_for k d text =
-    piece_then (some_of k text) (λ a. some_of d a.1 >>= λ n. some_of k n.1 >>= λ b. quoted b.1 >>= λ name. groups (length name) name >>= λ after. marker_piece n.0 after) (λ a.
-    piece_then (some_of d a.1) (λ n. some_of k n.1 >>= λ b. quoted b.1 >>= λ name. groups (length name) name >>= λ after. marker_piece n.0 after) (λ n.
-    piece_then (some_of k n.1) (λ b. quoted b.1 >>= λ name. groups (length name) name >>= λ after. marker_piece n.0 after) (λ b.
-    piece_then (quoted b.1) (λ name. groups (length name) name >>= λ after. marker_piece n.0 after) (λ name.
+    piece_then (some_of k text) (λ a. some_of d a.1 >>= λ n. some_of k n.1 >>= λ b. behind_quotes b.1 >>= λ name. groups (length name) name >>= λ after. marker_piece n.0 after) (λ a.
+    piece_then (some_of d a.1) (λ n. some_of k n.1 >>= λ b. behind_quotes b.1 >>= λ name. groups (length name) name >>= λ after. marker_piece n.0 after) (λ n.
+    piece_then (some_of k n.1) (λ b. behind_quotes b.1 >>= λ name. groups (length name) name >>= λ after. marker_piece n.0 after) (λ b.
+    piece_then (behind_quotes b.1) (λ name. groups (length name) name >>= λ after. marker_piece n.0 after) (λ name.
     piece_then (groups (length name) name) (λ after. marker_piece n.0 after) (λ after. number_marked n.0 after)))))
 
 marker_stood : (text : List ℕ) → IfPiece (marker text)
@@ -250,10 +250,10 @@ here_plain start line (Comment n) h = tt
 here_plain start line (Marker n) h = tt
 here_plain start line (Spelling s) h = (h, tt)
 
-pub spelt_plain : (whole : ℕ) (p q : Place) (xs : List Piece) → Row p xs q → Each (λ (s : Spelt). IsPlain s.said) (spelt whole p xs)
+pub spelt_plain : (whole : ℕ) (p q : Place) (xs : List Piece) → Row p xs q → Each (λ (s : Spelt). IsPlain s.said) (tokens_among whole p xs)
 spelt_plain whole p q [] h = tt
 spelt_plain whole p q (x ∷ xs) h =
-    each_both (λ (s : Spelt). IsPlain s.said) (spelt_here _ p.line x.what) (spelt whole (behind_piece x p) xs)
+    each_both (λ (s : Spelt). IsPlain s.said) (spelt_here _ p.line x.what) (tokens_among whole (behind_piece x p) xs)
     (here_plain _ p.line x.what ((all_stood p.fresh p.text).here x h.0)) (spelt_plain whole (behind_piece x p) q xs h.1)
 
 abbrev pub AreIdentifiers : List (List ℕ) → Type 0

@@ -11,7 +11,7 @@ use Rattle.pv_script.specs.Names.{name_at}
 use Rattle.pv_watch.specs.declared.event.Event.{Event}
 use Rattle.pv_watch.specs.declared.event.What.{What}
 use Rattle.pv_watch.specs.declared.event.What.TheVariants as what
-use Rattle.pv_watch.specs.Lines.{first_told, making_of, making_of_pair, named, instance_text}
+use Rattle.pv_watch.specs.Lines.{first_told, making_of, making_of_pair, text_of_instance, instance_text}
 use Rattle.pv_journal.specs.Journals.{Id, id_text}
 
 -- ---- what was told first
@@ -46,10 +46,10 @@ told-not f es e h g = told-snoc f es e ∙ ap (λ o. option_or o (option_or (f e
 pub record IsMade (seen : List Event) (names : List (List ℕ)) (i : ℕ) (id : Id) : Type 0 where
   pub first : ℕ × ℕ
   pub told : first_told (making_of i) seen ≡ Some first
-  pub text : named names (Some first) ≡ id_text id
+  pub text : text_of_instance names (Some first) ≡ id_text id
 
 pub made_text : (seen : List Event) (names : List (List ℕ)) (i : ℕ) (id : Id) → IsMade seen names i id → instance_text seen names i ≡ id_text id
-made_text seen names i id m = ap (named names) m.told ∙ m.text
+made_text seen names i id m = ap (text_of_instance names) m.told ∙ m.text
 
 pub made_more : (seen more : List Event) (names : List (List ℕ)) (i : ℕ) (id : Id) → IsMade seen names i id → IsMade (seen ++ more) names i id
 made_more seen more names i id m = record { first = m.first; told = told-more (making_of i) seen more m.first m.told; text = m.text }
@@ -154,7 +154,7 @@ eqb_not n m h = by (eqb n m) refl
     by false e = refl
 
 -- a name that has a text
-named_is : (names : List (List ℕ)) (n k : ℕ) → is_name (name_at names n) ≡ true → named names (Some (n, k)) ≡ id_text (record { name = name_at names n; k = k })
+named_is : (names : List (List ℕ)) (n k : ℕ) → is_name (name_at names n) ≡ true → text_of_instance names (Some (n, k)) ≡ id_text (record { name = name_at names n; k = k })
 named_is names n k h =
     let within : n < length names = within names n h in
     let test : ltb n (length names) ≡ true = grind (arith, nat_tests) in

@@ -21,13 +21,13 @@ use Rattle.pv_inst.specs.declared.values.Miss.{Miss}
 use Rattle.pv_inst.specs.declared.values.CreateError.{CreateError}
 use Rattle.pv_inst.specs.declared.values.CreateError.TheVariants as error
 use Rattle.pv_inst.specs.Table.{Table, instance_at}
-use Rattle.pv_inst.specs.Use.{use_answer, settled}
+use Rattle.pv_inst.specs.Use.{use_answer, after_use}
 use Rattle.pv_inst.specs.Infos.{info_of}
-use Rattle.pv_inst.specs.Ending.{ended}
+use Rattle.pv_inst.specs.Ending.{after_end}
 use Rattle.pv_inst.specs.Answers.{IsLive}
 use Rattle.pv_inst.specs.Placing.{Request, place}
 use Rattle.pv_shadow.specs.declared.byte.Byte.{Byte}
-use Rattle.pv_shadow.specs.Bytes.{read}
+use Rattle.pv_shadow.specs.Bytes.{bytes_from}
 use Rattle.pv_object.specs.declared.values.Asker.TheVariants.{Text}
 use Rattle.pv_object.specs.declared.values.Pointer.{Pointer}
 use Rattle.pv_object.specs.declared.values.Reach.{Reach}
@@ -35,9 +35,9 @@ use Rattle.pv_object.specs.declared.values.Stop.{Stop}
 use Rattle.pv_object.specs.declared.values.Value.{Value}
 use Rattle.pv_object.specs.declared.values.Value.TheVariants as value
 use Rattle.pv_object.specs.Memory.{Mem}
-use Rattle.pv_object.specs.Access.{fault, is_null, chosen}
-use Rattle.pv_object.specs.Creating.{created, made as made_in, without}
-use Rattle.pv_object.specs.Copying.{with_bytes, copied}
+use Rattle.pv_object.specs.Access.{fault, is_null, first_survivor}
+use Rattle.pv_object.specs.Creating.{creation, with_new_bytes as made_in, without}
+use Rattle.pv_object.specs.Copying.{with_bytes, after_copy}
 use Rattle.pv_object.proofs.Born.{born}
 use Rattle.pv_library.specs.declared.library.Library.{Library}
 use Rattle.pv_library.specs.declared.library.Library.TheVariants as library
@@ -46,18 +46,18 @@ use Rattle.pv_libc.specs.declared.values.Note.{Note}
 use Rattle.pv_libc.specs.declared.values.Note.TheVariants as note
 use Rattle.pv_libc.specs.declared.values.Reply.{Reply}
 use Rattle.pv_libc.specs.declared.values.Reply.TheVariants as reply
-use Rattle.pv_libc.specs.Steps.{Now, Did, done, halted, about_by, noted, in_memory, reached, with_notes}
+use Rattle.pv_libc.specs.Steps.{Now, Did, answer_now, stop_now, about_by, with_more_notes, in_memory, reach_for, with_notes}
 use Rattle.pv_libc.specs.Characters.{character_at, characters_from, most, string_at}
-use Rattle.pv_libc.specs.Blocks.{copy, memset, memcmp, filled, plain_byte, share, answers, difference}
+use Rattle.pv_libc.specs.Blocks.{copy, memset, memcmp, after_filling, plain_byte, share, answers, difference}
 use Rattle.pv_libc.specs.Strings.{strlen, compared_from, strcpy}
 use Rattle.pv_libc.specs.StringParts.{compared_by}
-use Rattle.pv_libc.specs.Heap.{null, told_of, granted, requested, allocated, malloc, cleared, calloc, block_in, the_block, block_answer, block_by, block, freed, free, both, moved, resized, realloc}
-use Rattle.pv_libc.specs.HeapParts.{heap_request, zeroed}
-use Rattle.pv_libc.specs.Calls.{pointer, pointer_in, number, size, stopped, called_in, called}
+use Rattle.pv_libc.specs.Heap.{null, told_of, grant_of, request_of_bytes, pointer_or_null, malloc, pointer_to_zeros, calloc, block_in, the_block, block_answer, block_by, block, end_of_block, free, after_block_copy, reply_after_move, resize_of, realloc}
+use Rattle.pv_libc.specs.HeapParts.{heap_request, with_zeros}
+use Rattle.pv_libc.specs.Calls.{pointer, pointer_in, number, size, stop_note, called_in, reply_to_call}
 use Rattle.pv_libc.proofs.Filling.{all_filled}
 use Rattle.pv_libc.proofs.Kept.{created_live}
 use Rattle.pv_watch.specs.declared.event.What.TheVariants as what
-use Rattle.pv_world.specs.Telling.{made}
+use Rattle.pv_world.specs.Telling.{event_of_making}
 use Rattle.pv_world.specs.ObjectParts.{made_row}
 use Rattle.pv_eval.specs.LibraryParts.{all_noted}
 use Rattle.pv_exec.specs.Staying.{Remains}
@@ -72,7 +72,7 @@ use Rattle.pv_journal_laws.proofs.Printing.{AreNumberedArguments, printf-steps}
 -- ---- the instance that is made
 
 -- it is there, and is the same ever after
-made_later : (N V : Table) (i : ℕ) (x : Instance) → instance_at N.instances i ≡ Some x → Leads (Unit {0}) N V → made V i ≡ made N i
+made_later : (N V : Table) (i : ℕ) (x : Instance) → instance_at N.instances i ≡ Some x → Leads (Unit {0}) N V → event_of_making V i ≡ event_of_making N i
 made_later N V i x at l = by (instance_at V.instances i) (subst (λ o. Remains o (instance_at V.instances i)) at (l.remain i)) refl ∙ ap (made_row i) (sym at)
   where
     by : (o : Option Instance) → Remains (Some x) o → instance_at V.instances i ≡ o → made_row i (instance_at V.instances i) ≡ what.Made i x.name x.k x.base x.size ∷ []
@@ -95,7 +95,7 @@ made_there M r ((Ok j), U) i e h =
     number_in d (Err y) = d
 made_there M r ((Err y), U) i e h = absurd (cc)
 
-created_there : (M : Mem) (r : Request) (i : ℕ) → (created M r).0 ≡ Ok i → IsThere (created M r).1.table i
+created_there : (M : Mem) (r : Request) (i : ℕ) → (creation M r).0 ≡ Ok i → IsThere (creation M r).1.table i
 created_there M r i h = made_there M r (place M.table r) i refl h
 
 -- a live instance
@@ -140,10 +140,10 @@ block_lives c M (Some j) i e = by (told_of M j) refl e
     by (Some x) t e = let same : j ≡ i = ap (number_in j) e in subst (Lives M.table) same (info_lives M.table j x t)
 
 answer_lives : (c : Clause) (M : Mem) (p : Pointer) (r : Result Tried Miss) (i : ℕ) → block_answer c M p r ≡ Ok i → Lives M.table i
-answer_lives c M p (Ok tried) i e = block_lives c M (chosen (stands M.table.pairs p.prov) tried) i e
+answer_lives c M p (Ok tried) i e = block_lives c M (first_survivor (stands M.table.pairs p.prov) tried) i e
 answer_lives c M p (Err m) i e = absurd (cc)
 
-settled_lives : (T : Table) (p : Prov) (r : Result Tried Miss) (i : ℕ) → Lives T i → Lives (settled T p r) i
+settled_lives : (T : Table) (p : Prov) (r : Result Tried Miss) (i : ℕ) → Lives T i → Lives (after_use T p r) i
 settled_lives T prov.Empty r i l = l
 settled_lives T (prov.Inst j) r i l = l
 settled_lives T (prov.Pair k) (Ok tried) i l = record { inst = l.inst; is = l.is; live = l.live }
@@ -168,30 +168,30 @@ module _ (names : List (List ℕ)) (distinct : AreDistinct names) (turn : ℕ) (
   bytes-at : (S : Now) (a : ℕ) (bs : List Byte) → AreNumbered bs → Goes names turn S (in_memory S (with_bytes S.memory a bs))
   bytes-at S a bs n = bytes-goes names distinct turn S (with_bytes S.memory a bs) refl (named_written S.memory.bytes a bs n)
 
-  copied-goes : (S : Now) (to from n : ℕ) → Goes names turn S (in_memory S (copied S.memory to from n))
-  copied-goes S to from n = bytes-goes names distinct turn S (copied S.memory to from n) refl (λ h. named_written S.memory.bytes to (read S.memory.bytes from n) (read_numbered S.memory.bytes from n h) h)
+  copied-goes : (S : Now) (to from n : ℕ) → Goes names turn S (in_memory S (after_copy S.memory to from n))
+  copied-goes S to from n = bytes-goes names distinct turn S (after_copy S.memory to from n) refl (λ h. named_written S.memory.bytes to (bytes_from S.memory.bytes from n) (read_numbered S.memory.bytes from n h) h)
 
-  filled-named : (M : Mem) (a n v : ℕ) → Named M.bytes → Named (filled M a n v).bytes
+  filled-named : (M : Mem) (a n v : ℕ) → Named M.bytes → Named (after_filling M a n v).bytes
   filled-named M a n v h = subst (λ (N : Mem). Named N.bytes) (all_filled M a n v) (named_written M.bytes a (replicate n (plain_byte v)) (same_numbered n (plain_byte v) tt) h)
 
   copy-steps : (apart : Bool) (p q : Pointer) (l m : Note) (n : ℕ) (S : Now) → IsNumbered p.prov → IsNumbered q.prov → IsStopped l → IsStopped m → G S (copy apart (record { pointer = p; stopped = l }) (record { pointer = q; stopped = m }) n S)
   copy-steps apart p q l m n S hp hq hl hm =
-      next-steps names distinct turn S (reached Text true (record { pointer = p; stopped = l }) n S) _ (reached-steps names distinct turn Text true p l n S hp hl) (λ (t : Reach) (T : Now).
-      next-steps names distinct turn T (reached Text false (record { pointer = q; stopped = m }) n T) _ (reached-steps names distinct turn Text false q m n T hq hm) (λ (f : Reach) (U : Now).
-      step-if names distinct turn U (apart && share p.address q.address n) (halted (fault clause.MemcpyOverlap reason.Overlap) (noted (l ∷ []) U)) (answers (record { pointer = p; stopped = l }) (in_memory U (copied U.memory t.address f.address n)))
+      next-steps names distinct turn S (reach_for Text true (record { pointer = p; stopped = l }) n S) _ (reached-steps names distinct turn Text true p l n S hp hl) (λ (t : Reach) (T : Now).
+      next-steps names distinct turn T (reach_for Text false (record { pointer = q; stopped = m }) n T) _ (reached-steps names distinct turn Text false q m n T hq hm) (λ (f : Reach) (U : Now).
+      step-if names distinct turn U (apart && share p.address q.address n) (stop_now (fault clause.MemcpyOverlap reason.Overlap) (with_more_notes (l ∷ []) U)) (answers (record { pointer = p; stopped = l }) (in_memory U (after_copy U.memory t.address f.address n)))
       (stopped-goes names distinct turn U l hl) (copied-goes U t.address f.address n)))
 
   memset-steps : (p : Pointer) (l : Note) (c : ℤ) (n : ℕ) (S : Now) → IsNumbered p.prov → IsStopped l → G S (memset (record { pointer = p; stopped = l }) c n S)
   memset-steps p l c n S hp hl =
-      next-steps names distinct turn S (reached Text true (record { pointer = p; stopped = l }) n S) _ (reached-steps names distinct turn Text true p l n S hp hl)
-      (λ (r : Reach) (T : Now). bytes-goes names distinct turn T (filled T.memory r.address n (bits_of UChar c)) refl (filled-named T.memory r.address n (bits_of UChar c)))
+      next-steps names distinct turn S (reach_for Text true (record { pointer = p; stopped = l }) n S) _ (reached-steps names distinct turn Text true p l n S hp hl)
+      (λ (r : Reach) (T : Now). bytes-goes names distinct turn T (after_filling T.memory r.address n (bits_of UChar c)) refl (filled-named T.memory r.address n (bits_of UChar c)))
 
   memcmp-steps : (p q : Pointer) (l m : Note) (n : ℕ) (S : Now) → IsNumbered p.prov → IsNumbered q.prov → IsStopped l → IsStopped m → G S (memcmp (record { pointer = p; stopped = l }) (record { pointer = q; stopped = m }) n S)
   memcmp-steps p q l m n S hp hq hl hm =
-      next-steps names distinct turn S (reached Text false (record { pointer = p; stopped = l }) n S) _ (reached-steps names distinct turn Text false p l n S hp hl) (λ (f : Reach) (T : Now).
-      next-steps names distinct turn T (reached Text false (record { pointer = q; stopped = m }) n T) _ (reached-steps names distinct turn Text false q m n T hq hm) (λ (r : Reach) (U : Now).
+      next-steps names distinct turn S (reach_for Text false (record { pointer = p; stopped = l }) n S) _ (reached-steps names distinct turn Text false p l n S hp hl) (λ (f : Reach) (T : Now).
+      next-steps names distinct turn T (reach_for Text false (record { pointer = q; stopped = m }) n T) _ (reached-steps names distinct turn Text false q m n T hq hm) (λ (r : Reach) (U : Now).
       next-steps names distinct turn U (characters_from n (record { pointer = p; stopped = l }) f.address [] U) _ (row-steps names distinct turn n p l f.address [] U hl) (λ (ls : List ℕ) (V : Now).
-      next-steps names distinct turn V (characters_from n (record { pointer = q; stopped = m }) r.address [] V) (λ rs W. done (reply.Value (value.Int (difference ls rs))) W) (row-steps names distinct turn n q m r.address [] V hm) (λ rs W. goes-itself))))
+      next-steps names distinct turn V (characters_from n (record { pointer = q; stopped = m }) r.address [] V) (λ rs W. answer_now (reply.Value (value.Int (difference ls rs))) W) (row-steps names distinct turn n q m r.address [] V hm) (λ rs W. goes-itself))))
 
   -- strings
   strlen-steps : (p : Pointer) (l : Note) (S : Now) → IsNumbered p.prov → IsStopped l → G S (strlen (record { pointer = p; stopped = l }) S)
@@ -210,21 +210,21 @@ module _ (names : List (List ℕ)) (distinct : AreDistinct names) (turn : ℕ) (
   strcpy-steps : (p q : Pointer) (l m : Note) (S : Now) → IsNumbered p.prov → IsNumbered q.prov → IsStopped l → IsStopped m → G S (strcpy (record { pointer = p; stopped = l }) (record { pointer = q; stopped = m }) S)
   strcpy-steps p q l m S hp hq hl hm =
       next-steps names distinct turn S (string_at Text (record { pointer = q; stopped = m }) S) _ (text-steps names distinct turn Text q m S hq hm) (λ (s : List ℕ) (T : Now).
-      next-steps names distinct turn T (reached Text true (record { pointer = p; stopped = l }) (length s + 1) T) _ (reached-steps names distinct turn Text true p l (length s + 1) T hp hl) (λ (t : Reach) (U : Now).
-      step-if names distinct turn U (share p.address q.address (length s + 1)) (halted (fault clause.StrcpyOverlap reason.Overlap) (noted (l ∷ []) U)) (answers (record { pointer = p; stopped = l }) (in_memory U (with_bytes U.memory t.address (map plain_byte (s ++ 0 ∷ [])))))
+      next-steps names distinct turn T (reach_for Text true (record { pointer = p; stopped = l }) (length s + 1) T) _ (reached-steps names distinct turn Text true p l (length s + 1) T hp hl) (λ (t : Reach) (U : Now).
+      step-if names distinct turn U (share p.address q.address (length s + 1)) (stop_now (fault clause.StrcpyOverlap reason.Overlap) (with_more_notes (l ∷ []) U)) (answers (record { pointer = p; stopped = l }) (in_memory U (with_bytes U.memory t.address (map plain_byte (s ++ 0 ∷ [])))))
       (stopped-goes names distinct turn U l hl) (bytes-at U t.address (map plain_byte (s ++ 0 ∷ [])) (each_numbered plain_byte (λ v. tt) (s ++ 0 ∷ [])))))
 
   -- memory management
-  memory-goes : (S : Now) (N : Mem) (ns : List Note) → (Named S.memory.bytes → Named N.bytes) → ((V : Table) → Leads (Unit {0}) N.table V → Tells names turn S.memory.table (all_noted V ns) N.table) → Goes names turn S (noted ns (in_memory S N))
+  memory-goes : (S : Now) (N : Mem) (ns : List Note) → (Named S.memory.bytes → Named N.bytes) → ((V : Table) → Leads (Unit {0}) N.table V → Tells names turn S.memory.table (all_noted V ns) N.table) → Goes names turn S (with_more_notes ns (in_memory S N))
   memory-goes S N ns n t = record { more = ns; notes = refl; named = n; tells = λ none V l. t V l }
 
   unnoted-goes : (S : Now) (N : Mem) → (Named S.memory.bytes → Named N.bytes) → Tells names turn S.memory.table [] N.table → Goes names turn S (in_memory S N)
   unnoted-goes S N n t = record { more = []; notes = sym (append-nil S.notes); named = n; tells = λ none V l. t }
 
-  granted-steps : (S : Now) (o : Result ℕ CreateError × Mem) → Creates names distinct turn S.memory o → (Named S.memory.bytes → Named o.1.bytes) → ((i : ℕ) → o.0 ≡ Ok i → IsThere o.1.table i) → G S (granted S o)
+  granted-steps : (S : Now) (o : Result ℕ CreateError × Mem) → Creates names distinct turn S.memory o → (Named S.memory.bytes → Named o.1.bytes) → ((i : ℕ) → o.0 ≡ Ok i → IsThere o.1.table i) → G S (grant_of S o)
   granted-steps S ((Ok i), N) h n there =
       let x = there i refl in
-      memory-goes S N (note.Made i ∷ []) n (λ V l. subst (λ es. Tells names turn S.memory.table es N.table) (sym (append-nil (made V i) ∙ made_later N.table V i x.inst x.is l)) h)
+      memory-goes S N (note.Made i ∷ []) n (λ V l. subst (λ es. Tells names turn S.memory.table es N.table) (sym (append-nil (event_of_making V i) ∙ made_later N.table V i x.inst x.is l)) h)
   granted-steps S ((Err error.Denied), N) h n there = unnoted-goes S N n h
   granted-steps S ((Err error.NoMemory), N) h n there = unnoted-goes S N n h
   granted-steps S ((Err (error.Storage live wanted)), N) h n there = unnoted-goes S N n h
@@ -236,29 +236,29 @@ module _ (names : List (List ℕ)) (distinct : AreDistinct names) (turn : ℕ) (
   requested-by S true d e h g = h
   requested-by S false d e h g = g refl
 
-  requested-steps : (n : ℕ) (S : Now) → G S (requested n S)
+  requested-steps : (n : ℕ) (S : Now) → G S (request_of_bytes n S)
   requested-steps n S =
       let r = heap_request n in
-      requested-by S (eqb n 0) _ (granted S (created S.memory r)) goes-itself
-      (λ e. granted-steps S (created S.memory r) (created-tells names distinct turn S.memory r (heap_asked names heap n (some-size n e))) (created_named S.memory r) (created_there S.memory r))
+      requested-by S (eqb n 0) _ (grant_of S (creation S.memory r)) goes-itself
+      (λ e. granted-steps S (creation S.memory r) (created-tells names distinct turn S.memory r (heap_asked names heap n (some-size n e))) (created_named S.memory r) (created_there S.memory r))
 
-  allocated-steps : (r : Result ℕ Reply) (S : Now) → G S (allocated r S)
+  allocated-steps : (r : Result ℕ Reply) (S : Now) → G S (pointer_or_null r S)
   allocated-steps (Err x) S = goes-itself
   allocated-steps (Ok i) S = goes-itself
 
   malloc-steps : (n : ℕ) (S : Now) → G S (malloc n S)
-  malloc-steps n S = next-steps names distinct turn S (requested n S) allocated (requested-steps n S) allocated-steps
+  malloc-steps n S = next-steps names distinct turn S (request_of_bytes n S) pointer_or_null (requested-steps n S) allocated-steps
 
-  zeroed-goes : (S : Now) (i : ℕ) (o : Option Info) → Goes names turn S (in_memory S (zeroed i o S.memory))
+  zeroed-goes : (S : Now) (i : ℕ) (o : Option Info) → Goes names turn S (in_memory S (with_zeros i o S.memory))
   zeroed-goes S i None = bytes-goes names distinct turn S S.memory refl (λ n. n)
-  zeroed-goes S i (Some x) = bytes-goes names distinct turn S (filled S.memory x.base x.size 0) refl (filled-named S.memory x.base x.size 0)
+  zeroed-goes S i (Some x) = bytes-goes names distinct turn S (after_filling S.memory x.base x.size 0) refl (filled-named S.memory x.base x.size 0)
 
-  cleared-steps : (r : Result ℕ Reply) (S : Now) → G S (cleared r S)
+  cleared-steps : (r : Result ℕ Reply) (S : Now) → G S (pointer_to_zeros r S)
   cleared-steps (Err x) S = goes-itself
   cleared-steps (Ok i) S = zeroed-goes S i (told_of S.memory i)
 
   calloc-steps : (count n : ℕ) (S : Now) → G S (calloc count n S)
-  calloc-steps count n S = next-steps names distinct turn S (requested (count * n) S) cleared (requested-steps (count * n) S) cleared-steps
+  calloc-steps count n S = next-steps names distinct turn S (request_of_bytes (count * n) S) pointer_to_zeros (requested-steps (count * n) S) cleared-steps
 
   block-steps : (c : Clause) (p : Pointer) (l : Note) (S : Now) → IsNumbered p.prov → IsStopped l → G S (block c (record { pointer = p; stopped = l }) S)
   block-steps c p l S hp hl =
@@ -276,30 +276,30 @@ module _ (names : List (List ℕ)) (distinct : AreDistinct names) (turn : ℕ) (
       let f = found-by c l d.answer d i refl e in
       subst (λ T. Lives T i) (sym f.1) (settled_lives S.memory.table p.prov r i (answer_lives c S.memory p r i f.0))
 
-  freed-goes : (i : ℕ) (S : Now) (M : Mem) → M.table ≡ S.memory.table → (Named S.memory.bytes → Named M.bytes) → Lives S.memory.table i → Goes names turn S (noted (note.Ended i ∷ []) (in_memory S (without M i)))
+  freed-goes : (i : ℕ) (S : Now) (M : Mem) → M.table ≡ S.memory.table → (Named S.memory.bytes → Named M.bytes) → Lives S.memory.table i → Goes names turn S (with_more_notes (note.Ended i ∷ []) (in_memory S (without M i)))
   freed-goes i S M same n l =
       memory-goes S (without M i) (note.Ended i ∷ []) (λ h. without_named M i (n h))
-      (λ V k. subst (λ T. Tells names turn S.memory.table (what.Ended i ∷ []) (ended T i)) (sym same) (ends-tells names distinct turn S.memory.table i l.inst l.is l.live))
+      (λ V k. subst (λ T. Tells names turn S.memory.table (what.Ended i ∷ []) (after_end T i)) (sym same) (ends-tells names distinct turn S.memory.table i l.inst l.is l.live))
 
   free-steps : (p : Pointer) (l : Note) (S : Now) → IsNumbered p.prov → IsStopped l → G S (free (record { pointer = p; stopped = l }) S)
   free-steps p l S hp hl =
       step-if names distinct turn S (is_null p) _ _ goes-itself
-      (next-known names distinct turn S (block clause.Freeing (record { pointer = p; stopped = l }) S) freed (block-steps clause.Freeing p l S hp hl)
+      (next-known names distinct turn S (block clause.Freeing (record { pointer = p; stopped = l }) S) end_of_block (block-steps clause.Freeing p l S hp hl)
       (λ i e. let T = (block clause.Freeing (record { pointer = p; stopped = l }) S).after in freed-goes i T T.memory refl (λ n. n) (found-lives clause.Freeing p l S i e)))
 
-  both-same : (o x : Option Info) (M : Mem) → ((both o x M).table ≡ M.table) × (Named M.bytes → Named (both o x M).bytes)
-  both-same (Some x) (Some y) M = (refl, λ h. named_written M.bytes y.base (read M.bytes x.base (min x.size y.size)) (read_numbered M.bytes x.base (min x.size y.size) h) h)
+  both-same : (o x : Option Info) (M : Mem) → ((after_block_copy o x M).table ≡ M.table) × (Named M.bytes → Named (after_block_copy o x M).bytes)
+  both-same (Some x) (Some y) M = (refl, λ h. named_written M.bytes y.base (bytes_from M.bytes x.base (min x.size y.size)) (read_numbered M.bytes x.base (min x.size y.size) h) h)
   both-same (Some x) None M = (refl, λ h. h)
   both-same None (Some y) M = (refl, λ h. h)
   both-same None None M = (refl, λ h. h)
 
-  moved-steps : (i : ℕ) (r : Result ℕ Reply) (S : Now) → Lives S.memory.table i → G S (moved i r S)
+  moved-steps : (i : ℕ) (r : Result ℕ Reply) (S : Now) → Lives S.memory.table i → G S (reply_after_move i r S)
   moved-steps i (Err x) S l = goes-itself
   moved-steps i (Ok j) S l =
       let s = both-same (told_of S.memory i) (told_of S.memory j) S.memory in
-      freed-goes i S (both (told_of S.memory i) (told_of S.memory j) S.memory) s.0 s.1 l
+      freed-goes i S (after_block_copy (told_of S.memory i) (told_of S.memory j) S.memory) s.0 s.1 l
 
-  granted-lives : (S : Now) (o : Result ℕ CreateError × Mem) (i : ℕ) → IsLive o.1.table.instances i → IsLive (granted S o).after.memory.table.instances i
+  granted-lives : (S : Now) (o : Result ℕ CreateError × Mem) (i : ℕ) → IsLive o.1.table.instances i → IsLive (grant_of S o).after.memory.table.instances i
   granted-lives S ((Ok j), N) i l = l
   granted-lives S ((Err error.Denied), N) i l = l
   granted-lives S ((Err error.NoMemory), N) i l = l
@@ -308,22 +308,22 @@ module _ (names : List (List ℕ)) (distinct : AreDistinct names) (turn : ℕ) (
   granted-lives S ((Err (error.Misaligned k a)), N) i l = l
   granted-lives S ((Err (error.Overlap k a with)), N) i l = l
 
-  requested-lives : (n : ℕ) (S : Now) (i : ℕ) → Lives S.memory.table i → Lives (requested n S).after.memory.table i
+  requested-lives : (n : ℕ) (S : Now) (i : ℕ) → Lives S.memory.table i → Lives (request_of_bytes n S).after.memory.table i
   requested-lives n S i l = by (eqb n 0)
     where
-      by : (b : Bool) → Lives (cond b (done (Err (reply.Value null)) S) (granted S (created S.memory (heap_request n)))).after.memory.table i
+      by : (b : Bool) → Lives (cond b (answer_now (Err (reply.Value null)) S) (grant_of S (creation S.memory (heap_request n)))).after.memory.table i
       by true = l
-      by false = lives_of (granted S (created S.memory (heap_request n))).after.memory.table i (granted-lives S (created S.memory (heap_request n)) i (created_live S.memory (heap_request n) i (is_live_of S.memory.table i l)))
+      by false = lives_of (grant_of S (creation S.memory (heap_request n))).after.memory.table i (granted-lives S (creation S.memory (heap_request n)) i (created_live S.memory (heap_request n) i (is_live_of S.memory.table i l)))
 
-  resized-steps : (n i : ℕ) (S : Now) → Lives S.memory.table i → G S (resized n i S)
+  resized-steps : (n i : ℕ) (S : Now) → Lives S.memory.table i → G S (resize_of n i S)
   resized-steps n i S l =
       step-if names distinct turn S (eqb n 0) _ _ goes-itself
-      (next-known names distinct turn S (requested n S) (moved i) (requested-steps n S) (λ r e. moved-steps i r (requested n S).after (requested-lives n S i l)))
+      (next-known names distinct turn S (request_of_bytes n S) (reply_after_move i) (requested-steps n S) (λ r e. moved-steps i r (request_of_bytes n S).after (requested-lives n S i l)))
 
   realloc-steps : (p : Pointer) (l : Note) (n : ℕ) (S : Now) → IsNumbered p.prov → IsStopped l → G S (realloc (record { pointer = p; stopped = l }) n S)
   realloc-steps p l n S hp hl =
       step-if names distinct turn S (is_null p) _ _ (malloc-steps n S)
-      (next-known names distinct turn S (block clause.Reallocating (record { pointer = p; stopped = l }) S) (resized n) (block-steps clause.Reallocating p l S hp hl)
+      (next-known names distinct turn S (block clause.Reallocating (record { pointer = p; stopped = l }) S) (resize_of n) (block-steps clause.Reallocating p l S hp hl)
       (λ i e. resized-steps n i (block clause.Reallocating (record { pointer = p; stopped = l }) S).after (found-lives clause.Reallocating p l S i e)))
 
   -- the pointer that is an argument
@@ -345,19 +345,19 @@ module _ (names : List (List ℕ)) (distinct : AreDistinct names) (turn : ℕ) (
   pub called-steps : (f : Library) (a : List Arg) (S : Now) → AreNumberedArguments a → G S (called_in f a S)
   called-steps library.Malloc a S h = malloc-steps (size a 0) S
   called-steps library.Calloc a S h = calloc-steps (size a 0) (size a 1) S
-  called-steps library.Free a S h = free-steps (pointer a 0) (stopped S.memory (pointer a 0).prov) S (pointer-numbered a 0 h) tt
-  called-steps library.Realloc a S h = realloc-steps (pointer a 0) (stopped S.memory (pointer a 0).prov) (size a 1) S (pointer-numbered a 0 h) tt
-  called-steps library.Memcpy a S h = copy-steps true (pointer a 0) (pointer a 1) (stopped S.memory (pointer a 0).prov) (stopped S.memory (pointer a 1).prov) (size a 2) S (pointer-numbered a 0 h) (pointer-numbered a 1 h) tt tt
-  called-steps library.Memmove a S h = copy-steps false (pointer a 0) (pointer a 1) (stopped S.memory (pointer a 0).prov) (stopped S.memory (pointer a 1).prov) (size a 2) S (pointer-numbered a 0 h) (pointer-numbered a 1 h) tt tt
-  called-steps library.Memset a S h = memset-steps (pointer a 0) (stopped S.memory (pointer a 0).prov) (number a 1) (size a 2) S (pointer-numbered a 0 h) tt
-  called-steps library.Memcmp a S h = memcmp-steps (pointer a 0) (pointer a 1) (stopped S.memory (pointer a 0).prov) (stopped S.memory (pointer a 1).prov) (size a 2) S (pointer-numbered a 0 h) (pointer-numbered a 1 h) tt tt
-  called-steps library.Strlen a S h = strlen-steps (pointer a 0) (stopped S.memory (pointer a 0).prov) S (pointer-numbered a 0 h) tt
-  called-steps library.Strcmp a S h = compared-steps most (pointer a 0) (pointer a 1) (stopped S.memory (pointer a 0).prov) (stopped S.memory (pointer a 1).prov) 0 S (pointer-numbered a 0 h) (pointer-numbered a 1 h) tt tt
-  called-steps library.Strcpy a S h = strcpy-steps (pointer a 0) (pointer a 1) (stopped S.memory (pointer a 0).prov) (stopped S.memory (pointer a 1).prov) S (pointer-numbered a 0 h) (pointer-numbered a 1 h) tt tt
+  called-steps library.Free a S h = free-steps (pointer a 0) (stop_note S.memory (pointer a 0).prov) S (pointer-numbered a 0 h) tt
+  called-steps library.Realloc a S h = realloc-steps (pointer a 0) (stop_note S.memory (pointer a 0).prov) (size a 1) S (pointer-numbered a 0 h) tt
+  called-steps library.Memcpy a S h = copy-steps true (pointer a 0) (pointer a 1) (stop_note S.memory (pointer a 0).prov) (stop_note S.memory (pointer a 1).prov) (size a 2) S (pointer-numbered a 0 h) (pointer-numbered a 1 h) tt tt
+  called-steps library.Memmove a S h = copy-steps false (pointer a 0) (pointer a 1) (stop_note S.memory (pointer a 0).prov) (stop_note S.memory (pointer a 1).prov) (size a 2) S (pointer-numbered a 0 h) (pointer-numbered a 1 h) tt tt
+  called-steps library.Memset a S h = memset-steps (pointer a 0) (stop_note S.memory (pointer a 0).prov) (number a 1) (size a 2) S (pointer-numbered a 0 h) tt
+  called-steps library.Memcmp a S h = memcmp-steps (pointer a 0) (pointer a 1) (stop_note S.memory (pointer a 0).prov) (stop_note S.memory (pointer a 1).prov) (size a 2) S (pointer-numbered a 0 h) (pointer-numbered a 1 h) tt tt
+  called-steps library.Strlen a S h = strlen-steps (pointer a 0) (stop_note S.memory (pointer a 0).prov) S (pointer-numbered a 0 h) tt
+  called-steps library.Strcmp a S h = compared-steps most (pointer a 0) (pointer a 1) (stop_note S.memory (pointer a 0).prov) (stop_note S.memory (pointer a 1).prov) 0 S (pointer-numbered a 0 h) (pointer-numbered a 1 h) tt tt
+  called-steps library.Strcpy a S h = strcpy-steps (pointer a 0) (pointer a 1) (stop_note S.memory (pointer a 0).prov) (stop_note S.memory (pointer a 1).prov) S (pointer-numbered a 0 h) (pointer-numbered a 1 h) tt tt
   called-steps library.Exit a S h = goes-itself
   called-steps library.Abort a S h = goes-itself
   called-steps library.Printf a S h = printf-steps names distinct turn a S h
 
   -- a call, with all that it notes
-  pub called-goes : (f : Library) (a : List Arg) (M : Mem) → AreNumberedArguments a → Goes names turn (with_notes M []) (called f a M).after
+  pub called-goes : (f : Library) (a : List Arg) (M : Mem) → AreNumberedArguments a → Goes names turn (with_notes M []) (reply_to_call f a M).after
   called-goes f a M h = called-steps f a (with_notes M []) h

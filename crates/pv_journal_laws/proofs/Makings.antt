@@ -12,7 +12,7 @@ use Rattle.pv_script.specs.Names.{name_at}
 use Rattle.pv_journal_laws.specs.Naming.{AreDistinct}
 use Rattle.pv_prov.specs.declared.pairs.Twin.{Twin}
 use Rattle.pv_prov.specs.declared.names.Stands.{Stands}
-use Rattle.pv_prov.specs.Names.{nobody, added}
+use Rattle.pv_prov.specs.Names.{nobody, with_twin}
 use Rattle.pv_inst.specs.declared.values.Instance.{Instance}
 use Rattle.pv_inst.specs.Table.{Table, instance_at, live_bytes, count_of}
 use Rattle.pv_inst.specs.Infos.{base_of}
@@ -21,7 +21,7 @@ use Rattle.pv_inst.specs.PlacingParts.{fresh}
 use Rattle.pv_inst.specs.Finding.{reaches, begins, number_of, both_found, table_by, after_name, fitting}
 use Rattle.pv_inst.specs.WellFormed.{HasMet, IsPlaced, Apart}
 use Rattle.pv_inst.proofs.Meetings.{met_found}
-use Rattle.pv_world.specs.Telling.{pairings, each_paired, made}
+use Rattle.pv_world.specs.Telling.{pairings, each_paired, event_of_making}
 use Rattle.pv_world.specs.ObjectParts.{made_row}
 use Rattle.pv_journal.specs.Journals.{Made, Paired}
 use Rattle.pv_journal.specs.Obeying.{after_fact}
@@ -60,7 +60,7 @@ module _ (names : List (List ℕ)) (distinct : AreDistinct names) (turn : ℕ) (
 
   -- a pair is
   one_paired : (T : Table) (a i j : ℕ) → AreCalled names T → All IsPlaced T.instances → AllPairs Apart T.instances → Some i ≡ number_of (reaches a) T.instances → Some j ≡ number_of (begins a) T.instances
-      → let U = record T { pairs = added T.pairs i j } in
+      → let U = record T { pairs = with_twin T.pairs i j } in
       told_from names (at_table names turn past T) (pairings T U) ≡ Some (state_of names turn past T.instances U.pairs)
   one_paired T a i j called placed apart low high =
       met_rows T.instances i j (met_found T.instances a i j placed apart low high) (λ x y xi yj meet.
@@ -70,7 +70,7 @@ module _ (names : List (List ℕ)) (distinct : AreDistinct names) (turn : ℕ) (
       let yl = and_parts y.live _ by in
       let ye = and_parts y.exposed _ yl.1 in
       let t : Twin = record { low = i; high = j; keeps_low = true; keeps_high = true } in
-      let U = record T { pairs = added T.pairs i j } in
+      let U = record T { pairs = with_twin T.pairs i j } in
       let s = at_table names turn past T in
       ap (λ ts. told_from names s (each_paired U (length T.pairs + 1) ts)) (drop_front T.pairs (t ∷ []))
       ∙ ap (λ o. option_and_then (λ u. Some u) (option_and_then (after_fact s) (option_and_then (λ l. option_map (λ h. Paired (length T.pairs + 1) (base_of o) l h) (known s.held j)) (known s.held i)))) yj
@@ -102,7 +102,7 @@ module _ (names : List (List ℕ)) (distinct : AreDistinct names) (turn : ℕ) (
   pub make_tells : (T : Table) (r : Request) (k base : ℕ) (default : Bool) → AreCalled names T → All (HasMet T.instances) T.pairs → r.name < length names → is_name (name_at names r.name) ≡ true
       → k ≡ count_of T r.name + 1 → k < 2 ^ 64 → 1 ≤ r.size → 4096 ≤ base → base + r.size ≤ 2 ^ 47 → first_overlap T.instances base r.size ≡ None → live_bytes T.instances + r.size ≤ 2 ^ 24
       → let U = with_fresh T r k base default in
-      told_from names (at_table names turn past T) (made U (length T.instances + 1)) ≡ Some (state_of names turn past U.instances U.pairs)
+      told_from names (at_table names turn past T) (event_of_making U (length T.instances + 1)) ≡ Some (state_of names turn past U.instances U.pairs)
   make_tells T r k base default called met named valid next few some low high free room =
       let U = with_fresh T r k base default in
       let x = fresh r k base in

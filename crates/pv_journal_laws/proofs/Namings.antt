@@ -10,11 +10,11 @@ use Rattle.pv_script.specs.Names.{name_at as text_of}
 use Rattle.pv_tree.specs.Syntax.{DeclarationTree}
 use Rattle.pv_typed.specs.Known.{Each, AreKnown}
 use Rattle.pv_typed.specs.Mains.{literal_text, heap_text}
-use Rattle.pv_typed.specs.Tables.{Stored, whole}
+use Rattle.pv_typed.specs.Tables.{Stored, whole_unit}
 use Rattle.pv_typed.specs.TypedUnits.{WholeUnit, TypedObject, TypedFunction}
 use Rattle.pv_token.specs.Said.{Said, Name, Text, Keyword, Number, Character, Punctuator, Spelt}
 use Rattle.pv_token.specs.Table.{Table, names_with, names_from}
-use Rattle.pv_lex.specs.Rows.{start, spelt}
+use Rattle.pv_lex.specs.Rows.{start, tokens_among}
 use Rattle.pv_lex.specs.Lexes.{Lexes}
 use Rattle.pv_unit.specs.Identifiers.{IsIdentifier, HasIdentifiers}
 use Rattle.pv_unit.specs.Units.{UnitComes, Typed}
@@ -125,8 +125,8 @@ identifiers_named t u a once h =
 
 tokens_named : (source : List ℕ) (t : Table) (u : WholeUnit) → Lexes source t → HasIdentifiers t u → HasNames u
 tokens_named source t u l h =
-    let ss = spelt (length source) (start source) l.pieces in
+    let ss = tokens_among (length source) (start source) l.pieces in
     identifiers_named t u (subst AreIdentifiers (sym l.tells.names) (named_from [] ss tt (spelt_plain (length source) (start source) l.last l.pieces l.row))) (subst NoneTwice (sym l.tells.names) (twice_from [] ss tt)) h
 
-pub units_named : (source : List ℕ) (t : Table) (ds : List DeclarationTree) (m : Stored) → Lexes source t → UnitComes t ds (Typed (whole m)) → AreKnown m → HasNames (whole m)
-units_named source t ds m l h k = tokens_named source t (whole m) l (unit_identifiers t ds m h k)
+pub units_named : (source : List ℕ) (t : Table) (ds : List DeclarationTree) (m : Stored) → Lexes source t → UnitComes t ds (Typed (whole_unit m)) → AreKnown m → HasNames (whole_unit m)
+units_named source t ds m l h k = tokens_named source t (whole_unit m) l (unit_identifiers t ds m h k)

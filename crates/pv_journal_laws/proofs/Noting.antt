@@ -14,9 +14,9 @@ use Rattle.pv_inst.specs.declared.values.Test.TheVariants.{Live, Range}
 use Rattle.pv_inst.specs.declared.values.Tried.{Tried}
 use Rattle.pv_inst.specs.declared.values.Miss.{Miss}
 use Rattle.pv_inst.specs.Table.{Table}
-use Rattle.pv_inst.specs.Use.{use_answer, settled, test_number}
+use Rattle.pv_inst.specs.Use.{use_answer, after_use, test_number}
 use Rattle.pv_shadow.specs.declared.byte.Byte.{Byte}
-use Rattle.pv_shadow.specs.Bytes.{read}
+use Rattle.pv_shadow.specs.Bytes.{bytes_from}
 use Rattle.pv_object.specs.declared.values.Pointer.{Pointer}
 use Rattle.pv_object.specs.declared.values.Reach.{Reach}
 use Rattle.pv_object.specs.declared.values.Scalar.TheVariants as scalar
@@ -29,7 +29,7 @@ use Rattle.pv_object.specs.Loading.{load, integer_of, exposed_by}
 use Rattle.pv_object.specs.Operations.{to_int, to_int_after, exposed_to}
 use Rattle.pv_libc.specs.declared.values.Note.{Note}
 use Rattle.pv_libc.specs.declared.values.Note.TheVariants as note
-use Rattle.pv_libc.specs.Steps.{Now, Did, next, next_by, about, about_by, noted, in_memory, in_table, used as noted_use, told, reached, reached_by}
+use Rattle.pv_libc.specs.Steps.{Now, Did, next, next_by, about, about_by, with_more_notes, in_memory, in_table, use_notes as noted_use, with_exposures, reach_for, reached_by}
 use Rattle.pv_libc.specs.Characters.{character_in, character_loaded, character_at, characters_from, string_from, most, string_at}
 use Rattle.pv_watch.specs.declared.event.What.TheVariants as what
 use Rattle.pv_world.specs.Telling.{uses, each_exposed, exposures, all_told}
@@ -100,7 +100,7 @@ goes-trans {names} {turn} {S} {T} {U} h g = record {
 
 -- a step that notes these, and leaves this table
 pub noted-goes : {names : List (List ℕ)} {turn : ℕ} (S : Now) (ns : List Note) (U : Table) → (S.memory.table.pending ≡ [] → (V : Table) → Leads (Unit {0}) U V → Tells names turn S.memory.table (all_noted V ns) U)
-    → Goes names turn S (noted ns (in_table S U))
+    → Goes names turn S (with_more_notes ns (in_table S U))
 noted-goes S ns U t = record { more = ns; notes = refl; named = λ n. n; tells = t }
 
 module _ (names : List (List ℕ)) (distinct : AreDistinct names) (turn : ℕ) where
@@ -120,7 +120,7 @@ module _ (names : List (List ℕ)) (distinct : AreDistinct names) (turn : ℕ) w
   next-steps S d rest h g = next-known S d rest h (λ a e. g a d.after)
 
   -- the note of the pointer whose check stops the call
-  pub stopped-goes : (S : Now) (n : Note) → IsStopped n → Goes names turn S (noted (n ∷ []) S)
+  pub stopped-goes : (S : Now) (n : Note) → IsStopped n → Goes names turn S (with_more_notes (n ∷ []) S)
   stopped-goes S n h = record { more = n ∷ []; notes = refl; named = λ n. n; tells = λ none V l. subst (λ es. Tells names turn S.memory.table es S.memory.table) (sym (stopped-as V n h)) tells-itself }
 
   about-by : {A : Type 0} (S : Now) (r : Result A Stop) (n : Note) (d : Did A) → IsStopped n → Steps S d → Steps S (about_by r n d)
@@ -144,24 +144,24 @@ module _ (names : List (List ℕ)) (distinct : AreDistinct names) (turn : ℕ) w
   }
 
   -- a use
-  pub use-goes : (S : Now) (p : Prov) (t : Test) → IsNumbered p → Goes names turn S (noted (noted_use (use_answer S.memory.table p t) (test_number t)) (in_table S (settled S.memory.table p (use_answer S.memory.table p t))))
+  pub use-goes : (S : Now) (p : Prov) (t : Test) → IsNumbered p → Goes names turn S (with_more_notes (noted_use (use_answer S.memory.table p t) (test_number t)) (in_table S (after_use S.memory.table p (use_answer S.memory.table p t))))
   use-goes S p t n =
       let T = S.memory.table in
-      noted-goes S (noted_use (use_answer T p t) (test_number t)) (settled T p (use_answer T p t))
-      (λ none V l. subst (λ es. Tells names turn T es (settled T p (use_answer T p t))) (sym (noted-uses V (use_answer T p t) (test_number t))) (use-tells names distinct turn T p t n))
+      noted-goes S (noted_use (use_answer T p t) (test_number t)) (after_use T p (use_answer T p t))
+      (λ none V l. subst (λ es. Tells names turn T es (after_use T p (use_answer T p t))) (sym (noted-uses V (use_answer T p t) (test_number t))) (use-tells names distinct turn T p t n))
 
   -- accesses (7.24.1p2, 7.1.4p1): the use settles the name, where there is one
-  missed : (T : Table) (p : Prov) (m : Miss) → settled T p (Err m) ≡ T
+  missed : (T : Table) (p : Prov) (m : Miss) → after_use T p (Err m) ≡ T
   missed T prov.Empty m = refl
   missed T (prov.Inst i) m = refl
   missed T (prov.Pair k) m = refl
 
-  nothing : (T : Table) (p : Prov) (r : Result Tried Miss) → is_empty p ≡ true → settled T p r ≡ T
+  nothing : (T : Table) (p : Prov) (r : Result Tried Miss) → is_empty p ≡ true → after_use T p r ≡ T
   nothing T prov.Empty r e = refl
   nothing T (prov.Inst i) r e = absurd (false≢true e)
   nothing T (prov.Pair k) r e = absurd (false≢true e)
 
-  after-table : (T : Table) (p : Pointer) (n align : ℕ) (write : Bool) (c : Clause) (r : Result Tried Miss) → (reach_after T p n align write c r).1 ≡ settled T p.prov r
+  after-table : (T : Table) (p : Pointer) (n align : ℕ) (write : Bool) (c : Clause) (r : Result Tried Miss) → (reach_after T p n align write c r).1 ≡ after_use T p.prov r
   after-table T p n align write c (Err m) = sym (missed T p.prov m)
   after-table T p n align write c (Ok tried) = refl
 
@@ -169,21 +169,21 @@ module _ (names : List (List ℕ)) (distinct : AreDistinct names) (turn : ℕ) w
   pair-if true T x y h g = h refl
   pair-if false T x y h g = g refl
 
-  reach-table : (T : Table) (p : Pointer) (n align : ℕ) (write : Bool) (by : Asker) → (reach T p n align write by).1 ≡ settled T p.prov (use_answer T p.prov (Range p.address n))
+  reach-table : (T : Table) (p : Pointer) (n align : ℕ) (write : Bool) (by : Asker) → (reach T p n align write by).1 ≡ after_use T p.prov (use_answer T p.prov (Range p.address n))
   reach-table T p n align write by =
       let r = use_answer T p.prov (Range p.address n) in
-      pair-if (is_null p) (settled T p.prov r) _ _ (λ e. sym (nothing T p.prov r (and_parts (eqb p.address 0) (is_empty p.prov) e).1))
-      (λ e. pair-if (is_empty p.prov) (settled T p.prov r) _ _ (λ e. sym (nothing T p.prov r e)) (λ e. after-table T p n align write (clause_of by) r))
+      pair-if (is_null p) (after_use T p.prov r) _ _ (λ e. sym (nothing T p.prov r (and_parts (eqb p.address 0) (is_empty p.prov) e).1))
+      (λ e. pair-if (is_empty p.prov) (after_use T p.prov r) _ _ (λ e. sym (nothing T p.prov r e)) (λ e. after-table T p n align write (clause_of by) r))
 
-  pub reached-steps : (by : Asker) (write : Bool) (p : Pointer) (m : Note) (n : ℕ) (S : Now) → IsNumbered p.prov → IsStopped m → Steps S (reached by write (record { pointer = p; stopped = m }) n S)
+  pub reached-steps : (by : Asker) (write : Bool) (p : Pointer) (m : Note) (n : ℕ) (S : Now) → IsNumbered p.prov → IsStopped m → Steps S (reach_for by write (record { pointer = p; stopped = m }) n S)
   reached-steps by write p m n S numbered s =
       let T = S.memory.table in
       let r = use_answer T p.prov (Range p.address n) in
       about-steps S m (reached_by by write (record { pointer = p; stopped = m }) n S (reach T p n 1 write by)) s
-      (subst (λ U. Goes names turn S (noted (noted_use r (test_number (Range p.address n))) (in_table S U))) (sym (reach-table T p n 1 write by)) (use-goes S p.prov (Range p.address n) numbered))
+      (subst (λ U. Goes names turn S (with_more_notes (noted_use r (test_number (Range p.address n))) (in_table S U))) (sym (reach-table T p n 1 write by)) (use-goes S p.prov (Range p.address n) numbered))
 
   -- characters (7.24.1p3): what becomes exposed is told at once
-  told-goes : (S : Now) (U : Table) → (S.memory.table.pending ≡ [] → Tells names turn S.memory.table (exposures U) (all_told U)) → Goes names turn S (told (in_table S U))
+  told-goes : (S : Now) (U : Table) → (S.memory.table.pending ≡ [] → Tells names turn S.memory.table (exposures U) (all_told U)) → Goes names turn S (with_exposures (in_table S U))
   told-goes S U t = record {
     more = map note.Exposed U.pending;
     notes = refl;
@@ -198,15 +198,15 @@ module _ (names : List (List ℕ)) (distinct : AreDistinct names) (turn : ℕ) w
   pub in-steps : (p : Pointer) (m : Note) (a : ℕ) (S : Now) → IsStopped m → Steps S (character_in (record { pointer = p; stopped = m }) a S)
   in-steps p m a S s =
       let T = S.memory.table in
-      let bytes = read S.memory.bytes a 1 in
+      let bytes = bytes_from S.memory.bytes a 1 in
       about-steps S m (character_loaded S (load S.memory a (scalar.Int UChar))) s
-      (subst (λ U. Goes names turn S (told (in_table S U))) (sym (character-table T bytes (number_in bytes)))
+      (subst (λ U. Goes names turn S (with_exposures (in_table S U))) (sym (character-table T bytes (number_in bytes)))
       (told-goes S (exposed_by T bytes) (λ none. tells-exposures none tells-itself (exposed-shows names distinct turn T bytes))))
 
   pub at-steps : (by : Asker) (p : Pointer) (m : Note) (i : ℕ) (S : Now) → IsNumbered p.prov → IsStopped m → Steps S (character_at by (record { pointer = p; stopped = m }) i S)
   at-steps by p m i S n s =
       let q : Pointer = record p { address = min (p.address + i) (2 ^ 64 - 1) } in
-      next-steps S (reached by false (record { pointer = q; stopped = m }) 1 S) (λ r T. character_in (record { pointer = p; stopped = m }) r.address T) (reached-steps by false q m 1 S n s)
+      next-steps S (reach_for by false (record { pointer = q; stopped = m }) 1 S) (λ r T. character_in (record { pointer = p; stopped = m }) r.address T) (reached-steps by false q m 1 S n s)
       (λ (r : Reach) (T : Now). in-steps p m r.address T s)
 
   pub row-steps : (n : ℕ) (p : Pointer) (m : Note) (a : ℕ) (read : List ℕ) (S : Now) → IsStopped m → Steps S (characters_from n (record { pointer = p; stopped = m }) a read S)
@@ -224,16 +224,16 @@ module _ (names : List (List ℕ)) (distinct : AreDistinct names) (turn : ℕ) w
   text-steps by p m S h s = string-steps most by p m [] S h s
 
   -- an address that is printed (7.21.6.1p8)
-  int-shows : (T : Table) (p : Pointer) (k : IntKind) (r : Result Tried Miss) → Showing names turn (settled T p.prov r) (to_int_after T p k r).1
+  int-shows : (T : Table) (p : Pointer) (k : IntKind) (r : Result Tried Miss) → Showing names turn (after_use T p.prov r) (to_int_after T p k r).1
   int-shows T p k (Err m) = subst (λ U. Showing names turn U T) (sym (missed T p.prov m)) showing-itself
   int-shows T p k (Ok tried) = by (fits_of k (pos p.address))
     where
-      by : (b : Bool) → Showing names turn (settled T p.prov (Ok tried)) (exposed_to (settled T p.prov (Ok tried)) p b tried).1
-      by true = expose-shows names distinct turn (settled T p.prov (Ok tried)) p.prov
+      by : (b : Bool) → Showing names turn (after_use T p.prov (Ok tried)) (exposed_to (after_use T p.prov (Ok tried)) p b tried).1
+      by true = expose-shows names distinct turn (after_use T p.prov (Ok tried)) p.prov
       by false = showing-itself
 
   pub int-steps : (p : Pointer) (k : IntKind) (S : Now) → IsNumbered p.prov
-      → Goes names turn S (told (noted (noted_use (use_answer S.memory.table p.prov Live) (test_number Live)) (in_table S (to_int S.memory.table p k).1)))
+      → Goes names turn S (with_exposures (with_more_notes (noted_use (use_answer S.memory.table p.prov Live) (test_number Live)) (in_table S (to_int S.memory.table p k).1)))
   int-steps p k S n =
       let T = S.memory.table in
       let r = use_answer T p.prov Live in

@@ -15,8 +15,8 @@ use Rattle.pv_inst.specs.Table.{Table, instance_at, IsMadeIn}
 use Rattle.pv_inst.specs.Finding.{name_by, name_at}
 use Rattle.pv_inst.specs.Placing.{Request, place}
 use Rattle.pv_shadow.specs.declared.byte.Byte.{Byte}
-use Rattle.pv_shadow.specs.Bytes.{Store, blank, byte_at, read, written, spread, cleared}
-use Rattle.pv_shadow.specs.Whole.{plain, pointed, little_endian}
+use Rattle.pv_shadow.specs.Bytes.{Store, blank_byte, byte_at, bytes_from, with_bytes_at, with_blanks, without_bytes}
+use Rattle.pv_shadow.specs.Whole.{number_bytes, pointer_bytes, little_endian}
 use Rattle.pv_object.specs.declared.values.Scalar.{Scalar}
 use Rattle.pv_object.specs.declared.values.Scalar.TheVariants as scalar
 use Rattle.pv_object.specs.declared.values.Value.{Value}
@@ -24,7 +24,7 @@ use Rattle.pv_object.specs.declared.values.Value.TheVariants as value
 use Rattle.pv_object.specs.Encoding.{encode}
 use Rattle.pv_object.specs.EncodingParts.{unset_byte}
 use Rattle.pv_object.specs.Memory.{Mem}
-use Rattle.pv_object.specs.Creating.{created, made, without}
+use Rattle.pv_object.specs.Creating.{creation, with_new_bytes, without}
 use Rattle.pv_object.specs.OperationParts.{blank_in, cleared_in}
 use Rattle.pv_journal_laws.proofs.Telling.{IsNumbered}
 
@@ -71,15 +71,15 @@ named_remove m k h a x e = by (eqb a k) (sym (get-remove nat_cmp_total m k a ∙
     by true e = absurd (none-some x e)
     by false e = h a x e
 
-pub named_written : (m : Store) (a : ℕ) (bs : List Byte) → AreNumbered bs → Named m → Named (written m a bs)
+pub named_written : (m : Store) (a : ℕ) (bs : List Byte) → AreNumbered bs → Named m → Named (with_bytes_at m a bs)
 named_written m a [] all h = h
 named_written m a (b ∷ bs) all h = named_written (insert m a b) (a + 1) bs (all_rest (λ (x : Byte). IsNumbered x.prov) b bs all) (named_insert m a b h (all_first (λ (x : Byte). IsNumbered x.prov) b bs all))
 
-pub named_spread : (m : Store) (a n : ℕ) → Named m → Named (spread m a n)
+pub named_spread : (m : Store) (a n : ℕ) → Named m → Named (with_blanks m a n)
 named_spread m a zero h = h
-named_spread m a (suc n) h = named_spread (insert m a blank) (a + 1) n (named_insert m a blank h tt)
+named_spread m a (suc n) h = named_spread (insert m a blank_byte) (a + 1) n (named_insert m a blank_byte h tt)
 
-pub named_cleared : (m : Store) (a n : ℕ) → Named m → Named (cleared m a n)
+pub named_cleared : (m : Store) (a n : ℕ) → Named m → Named (without_bytes m a n)
 named_cleared m a zero h = h
 named_cleared m a (suc n) h = named_cleared (remove m a) (a + 1) n (named_remove m a h)
 
@@ -87,23 +87,23 @@ named_cleared m a (suc n) h = named_cleared (remove m a) (a + 1) n (named_remove
 byte_numbered : (m : Store) (a : ℕ) → Named m → IsNumbered (byte_at m a).prov
 byte_numbered m a h = by (get m a) refl
   where
-    by : (o : Option Byte) → get m a ≡ o → IsNumbered (unwrap_or o blank).prov
+    by : (o : Option Byte) → get m a ≡ o → IsNumbered (unwrap_or o blank_byte).prov
     by None e = tt
     by (Some x) e = h a x e
 
-pub read_numbered : (m : Store) (a n : ℕ) → Named m → AreNumbered (read m a n)
-unfolding read
+pub read_numbered : (m : Store) (a n : ℕ) → Named m → AreNumbered (bytes_from m a n)
+unfolding bytes_from
 read_numbered m a zero h = All-nil (λ (x : Byte). IsNumbered x.prov)
-read_numbered m a (suc n) h = All-cons (λ (x : Byte). IsNumbered x.prov) (byte_at m a) (read m (a + 1) n) (byte_numbered m a h) (read_numbered m (a + 1) n h)
+read_numbered m a (suc n) h = All-cons (λ (x : Byte). IsNumbered x.prov) (byte_at m a) (bytes_from m (a + 1) n) (byte_numbered m a h) (read_numbered m (a + 1) n h)
 
 -- bytes that are made
-pub plain_numbered : (mark : Option ℕ) (j : ℕ) (vs : List ℕ) → AreNumbered (plain mark j vs)
+pub plain_numbered : (mark : Option ℕ) (j : ℕ) (vs : List ℕ) → AreNumbered (number_bytes mark j vs)
 plain_numbered mark j [] = All-nil (λ (x : Byte). IsNumbered x.prov)
-plain_numbered mark j (v ∷ vs) = All-cons (λ (x : Byte). IsNumbered x.prov) _ (plain mark (j + 1) vs) tt (plain_numbered mark (j + 1) vs)
+plain_numbered mark j (v ∷ vs) = All-cons (λ (x : Byte). IsNumbered x.prov) _ (number_bytes mark (j + 1) vs) tt (plain_numbered mark (j + 1) vs)
 
-pointed_numbered : (mark : Option ℕ) (p : Prov) (j : ℕ) (vs : List ℕ) → IsNumbered p → AreNumbered (pointed mark p j vs)
+pointed_numbered : (mark : Option ℕ) (p : Prov) (j : ℕ) (vs : List ℕ) → IsNumbered p → AreNumbered (pointer_bytes mark p j vs)
 pointed_numbered mark p j [] h = All-nil (λ (x : Byte). IsNumbered x.prov)
-pointed_numbered mark p j (v ∷ vs) h = All-cons (λ (x : Byte). IsNumbered x.prov) _ (pointed mark p (j + 1) vs) h (pointed_numbered mark p (j + 1) vs h)
+pointed_numbered mark p j (v ∷ vs) h = All-cons (λ (x : Byte). IsNumbered x.prov) _ (pointer_bytes mark p (j + 1) vs) h (pointed_numbered mark p (j + 1) vs h)
 
 pub same_numbered : (n : ℕ) (b : Byte) → IsNumbered b.prov → AreNumbered (replicate n b)
 same_numbered zero b h = All-nil (λ (x : Byte). IsNumbered x.prov)
@@ -136,11 +136,11 @@ cleared_named : (o : Option Instance) (m : Store) → Named m → Named (cleared
 cleared_named None m h = h
 cleared_named (Some x) m h = named_cleared m x.base x.size h
 
-made_named : (M : Mem) (w : Result ℕ CreateError × Table) → Named M.bytes → Named (made M w).1.bytes
+made_named : (M : Mem) (w : Result ℕ CreateError × Table) → Named M.bytes → Named (with_new_bytes M w).1.bytes
 made_named M ((Ok i), U) h = blank_named (instance_at U.instances i) M.bytes h
 made_named M ((Err e), U) h = h
 
-pub created_named : (M : Mem) (r : Request) → Named M.bytes → Named (created M r).1.bytes
+pub created_named : (M : Mem) (r : Request) → Named M.bytes → Named (creation M r).1.bytes
 created_named M r h = made_named M (place M.table r) h
 
 pub without_named : (M : Mem) (i : ℕ) → Named M.bytes → Named (without M i).bytes

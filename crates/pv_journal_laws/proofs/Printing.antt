@@ -13,12 +13,12 @@ use Rattle.pv_libc.specs.declared.values.Arg.{Arg}
 use Rattle.pv_libc.specs.declared.values.Note.{Note}
 use Rattle.pv_libc.specs.declared.values.Shape.{Shape}
 use Rattle.pv_libc.specs.declared.values.Shape.TheVariants as shape
-use Rattle.pv_libc.specs.Steps.{Now, Did, done, next, next_by}
+use Rattle.pv_libc.specs.Steps.{Now, Did, answer_now, next, next_by}
 use Rattle.pv_libc.specs.Formats.{piece_at, number_piece}
 use Rattle.pv_libc.specs.FormatParts.{percent_piece, given_of}
 use Rattle.pv_libc.specs.Arguments.{string_of, address_of}
 use Rattle.pv_libc.specs.Printing.{number_done, string_done, address_by, address_done, Printed, piece_done, printed_from, format_of}
-use Rattle.pv_libc.specs.Calls.{pointer, offer, printed, printf, stopped, pointer_in}
+use Rattle.pv_libc.specs.Calls.{pointer, offer, text_of_format, printf, stop_note, pointer_in}
 use Rattle.pv_journal_laws.proofs.Telling.{IsNumbered}
 use Rattle.pv_journal_laws.proofs.Numbering.{IsNumberedValue}
 use Rattle.pv_journal_laws.proofs.Noting.{IsStopped, goes-itself, goes-trans, Steps, next-steps, about-steps, text-steps, int-steps}
@@ -125,12 +125,12 @@ module _ (names : List (List ℕ)) (distinct : AreDistinct names) (turn : ℕ) w
     -- a conversion's text, and then the rest of the format
     taken-by : (cs : List ℕ) (S : Now) (r : Result (List ℕ) Stop) (d : Did (List ℕ)) (at : List ℕ → Printed) → Steps names distinct turn S d
         → ((t : List ℕ) (T : Now) → Along names distinct turn (List ℕ) T (printed_from cs (at t) T))
-        → Steps names distinct turn S (next (next_by r d (λ t T. done (at t) T)) (λ at T. printed_from cs at T))
+        → Steps names distinct turn S (next (next_by r d (λ t T. answer_now (at t) T)) (λ at T. printed_from cs at T))
     taken-by cs S (Ok t) d at h g = goes-trans h (g t d.after).by
     taken-by cs S (Err y) d at h g = h
 
     taken : (cs : List ℕ) (S : Now) (d : Did (List ℕ)) (at : List ℕ → Printed) → Along names distinct turn (List ℕ) S d → ((t : List ℕ) (T : Now) → Along names distinct turn (List ℕ) T (printed_from cs (at t) T))
-        → Along names distinct turn (List ℕ) S (next (next d (λ t T. done (at t) T)) (λ at T. printed_from cs at T))
+        → Along names distinct turn (List ℕ) S (next (next d (λ t T. answer_now (at t) T)) (λ at T. printed_from cs at T))
     taken cs S d at h g = record { by = taken-by cs S d.answer d at h.by g }
 
     number-on : (S : Now) (cs : List ℕ) → Prints cs (to_text S).answer → (long : Bool) (c : ℕ) → On cs (λ xs. piece_done (number_piece long c) (map (offer M) xs))
@@ -146,9 +146,9 @@ module _ (names : List (List ℕ)) (distinct : AreDistinct names) (turn : ℕ) w
         (if-on cs (c == 108) _ _ (λ xs text T n. g xs _ T n)
         (if-on cs (c == 99) _ _ (taking cs _ (λ text T. record { by = goes-itself }) (λ x xs text T v n. taken cs T _ _ (number-along _ _ T) (λ t U. h xs (text ++ t) U n)))
         (if-on cs (c == 115) _ _ (taking cs _ (λ text T. record { by = goes-itself })
-        (λ x xs text T v n. taken cs T _ _ (string-along (string_of x.shape x.value) (stopped M (pointer_in x.value).prov) T (string_numbered x.shape x.value v) tt) (λ t U. h xs (text ++ t) U n)))
+        (λ x xs text T v n. taken cs T _ _ (string-along (string_of x.shape x.value) (stop_note M (pointer_in x.value).prov) T (string_numbered x.shape x.value v) tt) (λ t U. h xs (text ++ t) U n)))
         (if-on cs (c == 112) _ _ (taking cs _ (λ text T. record { by = goes-itself })
-        (λ x xs text T v n. taken cs T _ _ (address-along (address_of x.shape x.value) (stopped M (pointer_in x.value).prov) T (address_numbered x.shape x.value v) tt) (λ t U. h xs (text ++ t) U n)))
+        (λ x xs text T v n. taken cs T _ _ (address-along (address_of x.shape x.value) (stop_note M (pointer_in x.value).prov) T (address_numbered x.shape x.value v) tt) (λ t U. h xs (text ++ t) U n)))
         (number-on S cs h false c)))))
 
     prints : (S : Now) (cs : List ℕ) → Prints cs (to_text S).answer × Prints cs (to_percent S).answer × Prints cs (to_long S).answer
@@ -161,8 +161,8 @@ module _ (names : List (List ℕ)) (distinct : AreDistinct names) (turn : ℕ) w
         )
 
   -- the whole format, with the arguments as they are when the call begins
-  pub printed-steps : (args : List Arg) (S : Now) → AreNumberedArguments args → Steps names distinct turn S (printed args S)
+  pub printed-steps : (args : List Arg) (S : Now) → AreNumberedArguments args → Steps names distinct turn S (text_of_format args S)
   printed-steps args S n = ((prints S.memory S (format_of S.memory (pointer args 0).prov)).0 (drop 1 args) [] S (numbered_drop 1 args n)).by
 
   pub printf-steps : (args : List Arg) (S : Now) → AreNumberedArguments args → Steps names distinct turn S (printf args S)
-  printf-steps args S n = next-steps names distinct turn S (printed args S) _ (printed-steps args S n) (λ text T. goes-itself)
+  printf-steps args S n = next-steps names distinct turn S (text_of_format args S) _ (printed-steps args S n) (λ text T. goes-itself)

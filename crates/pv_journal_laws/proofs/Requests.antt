@@ -12,15 +12,15 @@ use Rattle.pv_inst.specs.declared.values.CreateError.{CreateError}
 use Rattle.pv_inst.specs.declared.values.CreateError.TheVariants.{Range, Misaligned, Denied, Storage}
 use Rattle.pv_inst.specs.Table.{Table, instance_at, live_bytes, count_of}
 use Rattle.pv_inst.specs.Use.{is_heap}
-use Rattle.pv_inst.specs.Placing.{Request, place, place_said, place_at, unless_overlap, with_fresh, counted, first_overlap}
-use Rattle.pv_inst.specs.PlacingParts.{rounded, fresh}
+use Rattle.pv_inst.specs.Placing.{Request, place, place_said, place_at, unless_overlap, with_fresh, with_number_used, first_overlap}
+use Rattle.pv_inst.specs.PlacingParts.{multiple_of_16, fresh}
 use Rattle.pv_object.specs.Memory.{Mem}
-use Rattle.pv_object.specs.Creating.{created, made as made_in}
+use Rattle.pv_object.specs.Creating.{creation, with_new_bytes as made_in}
 use Rattle.pv_object.proofs.Born.{slice_last, at_next}
 use Rattle.pv_watch.specs.declared.event.What.{What}
 use Rattle.pv_exec.proofs.Memory.Rows.{push-led, led-itself}
 use Rattle.pv_world.specs.ObjectParts.{made_row}
-use Rattle.pv_world.specs.Telling.{made}
+use Rattle.pv_world.specs.Telling.{event_of_making}
 use Rattle.pv_journal_laws.proofs.Makings.{make_tells}
 use Rattle.pv_journal_laws.proofs.Calling.{called_more, called_push}
 use Rattle.pv_journal_laws.proofs.Changes.{AreFew, Tells, tells-itself}
@@ -34,7 +34,7 @@ pub record IsAsked (names : List (List ℕ)) (r : Request) : Type 0 where
 
 -- what is told of an answer
 abbrev pub answer_told : Result ℕ CreateError → Table → List What
-answer_told (Ok i) U = made U i
+answer_told (Ok i) U = event_of_making U i
 answer_told (Err e) U = []
 
 -- within the addresses
@@ -45,7 +45,7 @@ module _ (names : List (List ℕ)) (distinct : AreDistinct names) (turn : ℕ) w
   abbrev pub Places : Table → Result ℕ CreateError × Table → Type 0
   Places T w = Tells names turn T (answer_told w.0 w.1) w.1
 
-  few_made : (T : Table) (r : Request) (k base : ℕ) (default : Bool) → AreFew (made (with_fresh T r k base default) (length T.instances + 1)) → k < 2 ^ 64
+  few_made : (T : Table) (r : Request) (k base : ℕ) (default : Bool) → AreFew (event_of_making (with_fresh T r k base default) (length T.instances + 1)) → k < 2 ^ 64
   few_made T r k base default f =
       let x = fresh r k base in
       let got : instance_at (T.instances ++ x ∷ []) (length T.instances + 1) ≡ Some x = at_next T.instances (T.instances ++ x ∷ []) (length T.instances) refl ∙ slice_last T.instances x in
@@ -74,7 +74,7 @@ module _ (names : List (List ℕ)) (distinct : AreDistinct names) (turn : ℕ) w
       by false true e = overlap-places T r k base default (first_overlap T.instances base r.size) refl e few next asked
 
   -- a request that is denied counts
-  counted-tells : (T : Table) (name : ℕ) → Tells names turn T [] (counted T name)
+  counted-tells : (T : Table) (name : ℕ) → Tells names turn T [] (with_number_used T name)
   counted-tells T name = record {
     led = led-itself;
     zap = refl;
@@ -84,7 +84,7 @@ module _ (names : List (List ℕ)) (distinct : AreDistinct names) (turn : ℕ) w
   }
 
   said-places : (T : Table) (r : Request) (k : ℕ) (o : Option Place) → live_bytes T.instances + r.size ≤ 2 ^ 24 → k ≡ count_of T r.name + 1 → IsAsked names r → Places T (place_said o T r k)
-  said-places T r k None few next asked = at-places T r k (rounded T.cursor) true few next asked
+  said-places T r k None few next asked = at-places T r k (multiple_of_16 T.cursor) true few next asked
   said-places T r k (Some (At base)) few next asked = at-places T r k base false few next asked
   said-places T r k (Some Null) few next asked = counted-tells T r.name
 
@@ -95,7 +95,7 @@ module _ (names : List (List ℕ)) (distinct : AreDistinct names) (turn : ℕ) w
   pub place-tells : (T : Table) (r : Request) → IsAsked names r → Places T (place T r)
   place-tells T r asked =
       let k = count_of T r.name + 1 in
-      places-if T (ltb (2 ^ 24) (live_bytes T.instances + r.size)) (Err (cond (is_heap r.kind) Denied (Storage (live_bytes T.instances) r.size)), counted T r.name) (place_said (place_of T.script r.text k) T r k)
+      places-if T (ltb (2 ^ 24) (live_bytes T.instances + r.size)) (Err (cond (is_heap r.kind) Denied (Storage (live_bytes T.instances) r.size)), with_number_used T r.name) (place_said (place_of T.script r.text k) T r k)
       (counted-tells T r.name)
       (λ e. said-places T r k (place_of T.script r.text k) (ltb-false (2 ^ 24) (live_bytes T.instances + r.size) e) refl asked)
 
@@ -107,5 +107,5 @@ module _ (names : List (List ℕ)) (distinct : AreDistinct names) (turn : ℕ) w
   made-creates M ((Ok i), U) h = h
   made-creates M ((Err e), U) h = h
 
-  pub created-tells : (M : Mem) (r : Request) → IsAsked names r → Creates M (created M r)
+  pub created-tells : (M : Mem) (r : Request) → IsAsked names r → Creates M (creation M r)
   created-tells M r asked = made-creates M (place M.table r) (place-tells M.table r asked)

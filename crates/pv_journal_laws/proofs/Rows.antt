@@ -25,7 +25,7 @@ use Rattle.pv_inst.proofs.Meetings.{same_or_not}
 use Rattle.pv_journal.specs.Journals.{Id, Fact, Made, Ended, Exposed, Paired, Used}
 use Rattle.pv_journal.specs.Obeying.{Held, Bond, State, same_id, place_of, held_at, is_live, is_open, ends_at, begins_at, is_id, exceeds, overlaps, live_size, left_of, may_leave, may_make, may_pair, with_held, keeping, end_at, expose_at, at_held, use_at, after_fact}
 use Rattle.pv_inst.specs.WellFormed.{HasMet, AreMet, Meet}
-use Rattle.pv_prov.specs.Names.{twin_at, added, kept}
+use Rattle.pv_prov.specs.Names.{twin_at, with_twin, after_narrowing}
 use Rattle.pv_prov.specs.NameParts.{keeping as keeps}
 use Rattle.pv_journal_laws.proofs.Telling.{known, id_of, id_by, id_at, held_of, bond_of, state_of, used_by, AreCalled}
 use Rattle.pv_journal_laws.proofs.Parts.{bool_false, snoc_map}
@@ -261,7 +261,7 @@ module _ (names : List (List ℕ)) (distinct : AreDistinct names) where
   -- a pair that is made
   pub pair_passes : (turn : ℕ) (over : Bool) (T : Table) (low high : ℕ) (x y : Instance) → AreCalled names T → instance_at T.instances low ≡ Some x → instance_at T.instances high ≡ Some y
       → x.live ≡ true → y.live ≡ true → x.exposed ≡ true → y.exposed ≡ true → x.base + x.size ≡ y.base
-      → after_fact (state_of names turn over T.instances T.pairs) (Paired (length T.pairs + 1) y.base (id_of names x) (id_of names y)) ≡ Some (state_of names turn over T.instances (added T.pairs low high))
+      → after_fact (state_of names turn over T.instances T.pairs) (Paired (length T.pairs + 1) y.base (id_of names x) (id_of names y)) ≡ Some (state_of names turn over T.instances (with_twin T.pairs low high))
   pair_passes turn over T low high x y called lat hat xl yl xe ye meet =
       let s = state_of names turn over T.instances T.pairs in
       let lo = held_is T low x called lat in
@@ -328,7 +328,7 @@ module _ (names : List (List ℕ)) (distinct : AreDistinct names) where
       → t.keeps_low ≡ true → t.keeps_high ≡ true → instance_at T.instances t.low ≡ Some x → instance_at T.instances t.high ≡ Some y → same_id (id_of names y) (id_of names x) ≡ false
       → may_with x.live y.live (name_at names x.name) (name_at names y.name) test low high ≡ true
       → (f : Fact) → used_by k test (bond_of names T.instances t) low high ≡ Some f
-      → after_fact (state_of names turn over T.instances T.pairs) f ≡ Some (state_of names turn over T.instances (kept T.pairs k low high))
+      → after_fact (state_of names turn over T.instances T.pairs) f ≡ Some (state_of names turn over T.instances (after_narrowing T.pairs k low high))
   use_passes turn over T k test t x y low high called one at kl kh lat hat differ may f told =
       let s = state_of names turn over T.instances T.pairs in
       let b = bond_of names T.instances t in
@@ -342,7 +342,7 @@ module _ (names : List (List ℕ)) (distinct : AreDistinct names) where
       ∙ ap (λ (i : Id). may_with x.live y.live i.name b.high.name test low high) lo ∙ ap (λ (i : Id). may_with x.live y.live (name_at names x.name) i.name test low high) hi ∙ may in
       let got : slice_get s.bonds (k - 1) ≡ Some b = slice_get-map (bond_of names T.instances) T.pairs (k - 1) ∙ ap (option_map (bond_of names T.instances)) at in
       let both : (b.keeps_low && b.keeps_high) ≡ true = and_from t.keeps_low t.keeps_high kl kh in
-      let new : record s { bonds = slice_set s.bonds (k - 1) (keeping b (low, high)) } ≡ state_of names turn over T.instances (kept T.pairs k low high) =
+      let new : record s { bonds = slice_set s.bonds (k - 1) (keeping b (low, high)) } ≡ state_of names turn over T.instances (after_narrowing T.pairs k low high) =
       state_is _ _ refl (sym (map-set (bond_of names T.instances) T.pairs (k - 1) (record { low = t.low; high = t.high; keeps_low = low; keeps_high = high })) ∙ ap (λ o. map (bond_of names T.instances) (keeps o T.pairs k low high)) (sym at)) refl refl in
       by low high told got both leaves new (subst (λ (i : Id). same_id b.high i ≡ false) (sym lo) (subst (λ (i : Id). same_id i (id_of names x) ≡ false) (sym hi) differ))
     where
@@ -357,20 +357,20 @@ module _ (names : List (List ℕ)) (distinct : AreDistinct names) where
 
       by : (l h : Bool) → used_by k test (bond_of names T.instances t) l h ≡ Some f → slice_get (map (bond_of names T.instances) T.pairs) (k - 1) ≡ Some (bond_of names T.instances t)
           → (t.keeps_low && t.keeps_high) ≡ true → may_leave (map (held_of names) T.instances) (bond_of names T.instances t) test l h ≡ true
-          → record (state_of names turn over T.instances T.pairs) { bonds = slice_set (map (bond_of names T.instances) T.pairs) (k - 1) (keeping (bond_of names T.instances t) (l, h)) } ≡ state_of names turn over T.instances (kept T.pairs k l h)
+          → record (state_of names turn over T.instances T.pairs) { bonds = slice_set (map (bond_of names T.instances) T.pairs) (k - 1) (keeping (bond_of names T.instances t) (l, h)) } ≡ state_of names turn over T.instances (after_narrowing T.pairs k l h)
           → same_id (id_at names T.instances t.high) (id_at names T.instances t.low) ≡ false
-          → after_fact (state_of names turn over T.instances T.pairs) f ≡ Some (state_of names turn over T.instances (kept T.pairs k l h))
+          → after_fact (state_of names turn over T.instances T.pairs) f ≡ Some (state_of names turn over T.instances (after_narrowing T.pairs k l h))
       by true true told got both leaves new differ =
           let b = bond_of names T.instances t in
-          subst (λ g. after_fact (state_of names turn over T.instances T.pairs) g ≡ Some (state_of names turn over T.instances (kept T.pairs k true true))) (same_Some _ f told)
+          subst (λ g. after_fact (state_of names turn over T.instances T.pairs) g ≡ Some (state_of names turn over T.instances (after_narrowing T.pairs k true true))) (same_Some _ f told)
           (leave (state_of names turn over T.instances T.pairs) b.low (Some b.high) true true _ b got both (if_so (same_id b.low b.low && same_id b.high b.high) _ (and_from _ _ (same_so b.low) (same_so b.high))) leaves new)
       by true false told got both leaves new differ =
           let b = bond_of names T.instances t in
-          subst (λ g. after_fact (state_of names turn over T.instances T.pairs) g ≡ Some (state_of names turn over T.instances (kept T.pairs k true false))) (same_Some _ f told)
+          subst (λ g. after_fact (state_of names turn over T.instances T.pairs) g ≡ Some (state_of names turn over T.instances (after_narrowing T.pairs k true false))) (same_Some _ f told)
           (leave (state_of names turn over T.instances T.pairs) b.low None true false _ b got both (ap (λ c. cond c (Some (true, false)) (cond (same_id b.low b.high) (Some (false, true)) None)) (same_so b.low)) leaves new)
       by false true told got both leaves new differ =
           let b = bond_of names T.instances t in
-          subst (λ g. after_fact (state_of names turn over T.instances T.pairs) g ≡ Some (state_of names turn over T.instances (kept T.pairs k false true))) (same_Some _ f told)
+          subst (λ g. after_fact (state_of names turn over T.instances T.pairs) g ≡ Some (state_of names turn over T.instances (after_narrowing T.pairs k false true))) (same_Some _ f told)
           (leave (state_of names turn over T.instances T.pairs) b.high None false true _ b got both
           (ap (λ c. cond c (Some (true, false)) (cond (same_id b.high b.high) (Some (false, true)) None)) differ ∙ if_so (same_id b.high b.high) _ (same_so b.high)) leaves new)
       by false false told got both leaves new differ = absurd (none-some f told)

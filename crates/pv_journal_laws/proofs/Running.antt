@@ -11,7 +11,7 @@ use Rattle.pv_script.specs.Lines.{ScriptLine}
 use Rattle.pv_inst.specs.declared.values.Instance.{Instance}
 use Rattle.pv_inst.specs.Table.{Table, instance_at}
 use Rattle.pv_typed.specs.Known.{Each}
-use Rattle.pv_typed.specs.Tables.{Stored, whole}
+use Rattle.pv_typed.specs.Tables.{Stored, whole_unit}
 use Rattle.pv_watch.specs.declared.event.Event.{Event}
 use Rattle.pv_watch.specs.declared.event.What.{What}
 use Rattle.pv_watch.specs.declared.event.What.TheVariants as what
@@ -22,12 +22,12 @@ use Rattle.pv_world.specs.Telling.{Told, fault_of, verdict_of, blame_of}
 use Rattle.pv_world.specs.Doing.{Done, Answers, Fails, Breaks}
 use Rattle.pv_eval.specs.declared.marked.Marked.{Marked}
 use Rattle.pv_eval.specs.States.{Setting, State, Turns, Res, Gives, Stops, then_do, end_of, spend}
-use Rattle.pv_eval.specs.Acting.{stamped, noted, noted_with, acted}
+use Rattle.pv_eval.specs.Acting.{marked_events, after_telling, noted_with, after_doing}
 use Rattle.pv_eval.specs.Constants.{constant_worth}
 use Rattle.pv_eval.specs.Operations.{Op, Puts, does}
 use Rattle.pv_eval.proofs.Closed.{beside_setting}
 use Rattle.pv_exec.specs.Calls.{below}
-use Rattle.pv_exec.specs.Run.{setting_of, first, run_of}
+use Rattle.pv_exec.specs.Run.{setting_of, initial_state, run_of}
 use Rattle.pv_exec.specs.Laws.{run_at}
 use Rattle.pv_exec.specs.Laying.{HasNoEmptyTag, table_at}
 use Rattle.pv_exec.specs.Outlets.{event_of}
@@ -94,9 +94,9 @@ left_table names [] turn now T U h = ap (λ (x : Left). record x { turn = turn }
 left_table names (e ∷ es) turn now T U h = refl
 
 module _ (names : List (List ℕ)) where
-  noted-holds : (s : State) (w : World) (t : Told) → Holds names s → (Fine names s.world → Answered names s.taken s.world t.events w) → Holds names (noted w t s)
+  noted-holds : (s : State) (w : World) (t : Told) → Holds names s → (Fine names s.world → Answered names s.taken s.world t.events w) → Holds names (after_telling w t s)
   noted-holds s w t h a fits =
-      let parts = each_parts FitsLine s.events (stamped s.taken (length s.output) t.events) fits in
+      let parts = each_parts FitsLine s.events (marked_events s.taken (length s.output) t.events) fits in
       let was : Holding names s = h parts.0 in
       let answered = a was.fine in
       let told = answered.tells.told was.fine.sane (few_stamped s.taken (length s.output) t.events parts.1) in
@@ -106,7 +106,7 @@ module _ (names : List (List ℕ)) where
         turn = turn_of t.events was.turn s.taken;
         le = turn_le t.events was.turn s.taken was.le;
         told =
-            told_behind names s.events (stamped s.taken (length s.output) t.events) at_first (at_table names was.turn false T) was.told
+            told_behind names s.events (marked_events s.taken (length s.output) t.events) at_first (at_table names was.turn false T) was.told
             ∙ stamped_from names s.taken (length s.output) t.events (at_table names was.turn false T) (at_table names s.taken false U) refl was.le parts.1 told refl
             ∙ ap Some (left_table names t.events was.turn s.taken T U told);
         fine = fine_told was.fine answered;
@@ -124,17 +124,17 @@ module _ (names : List (List ℕ)) where
   fault-passes s w t b o h a fits =
       let n = s.taken in
       let m = length s.output in
-      let all = each_parts FitsLine s.events (stamped n m (t.events ++ fault_of b o)) fits in
-      let both = each_parts FitsLine (stamped n m t.events) (stamped n m (fault_of b o)) (subst (Each FitsLine) (stamped_append n m t.events (fault_of b o)) all.1) in
+      let all = each_parts FitsLine s.events (marked_events n m (t.events ++ fault_of b o)) fits in
+      let both = each_parts FitsLine (marked_events n m t.events) (marked_events n m (fault_of b o)) (subst (Each FitsLine) (stamped_append n m t.events (fault_of b o)) all.1) in
       let was : Holding names s = h all.0 in
       let passing = (a was.fine).some (few_stamped n m t.events both.0) in
       let J = at_table names was.turn false (table_at s) in
       let X = left_by t.events J passing.left in
-      let first : after_events names J (map event_of (stamped n m t.events)) ≡ Some X = stamped_from names n m t.events J passing.left refl was.le both.0 passing.told passing.over in
-      let whole : after_events names at_first (map event_of (s.events ++ stamped n m (t.events ++ fault_of b o))) ≡ after_events names X (map event_of (stamped n m (fault_of b o))) =
-      told_behind names s.events (stamped n m (t.events ++ fault_of b o)) at_first J was.told
+      let first : after_events names J (map event_of (marked_events n m t.events)) ≡ Some X = stamped_from names n m t.events J passing.left refl was.le both.0 passing.told passing.over in
+      let whole : after_events names at_first (map event_of (s.events ++ marked_events n m (t.events ++ fault_of b o))) ≡ after_events names X (map event_of (marked_events n m (fault_of b o))) =
+      told_behind names s.events (marked_events n m (t.events ++ fault_of b o)) at_first J was.told
       ∙ ap (λ l. after_events names J (map event_of l)) (stamped_append n m t.events (fault_of b o))
-      ∙ told_behind names (stamped n m t.events) (stamped n m (fault_of b o)) J X first in
+      ∙ told_behind names (marked_events n m t.events) (marked_events n m (fault_of b o)) J X first in
       subst IsSome (sym whole) (fault_passes names n m b o X (left_over t.events J passing.left refl passing.over) (left_turn t.events J passing.left n was.le (told_turn names (at_table names n false (table_at s)) passing.left t.events passing.told n (omega arith))) both.1)
 
   -- pieces of a run, wherever they begin
@@ -149,18 +149,18 @@ module _ (names : List (List ℕ)) where
   seq-ends (Gives a t) f h g = g a t h
   seq-ends (Stops y t) f h g = h
 
-module _ (u : Stored) (n : ℕ) (named : HasNames (whole u)) (filled : HasNoEmptyTag u) where
+module _ (u : Stored) (n : ℕ) (named : HasNames (whole_unit u)) (filled : HasNoEmptyTag u) where
   -- a run in which pairs are settled late, and pointers to what has ended may not be used
   abbrev b : Setting
   b = setting_of u n None true
 
-  acted-ends : (line : ℕ) (d : Done) (s : State) → Holds u.names s → (Fine u.names s.world → Coming u.names s.taken s.world d) → Ends u.names (acted b line d s)
+  acted-ends : (line : ℕ) (d : Done) (s : State) → Holds u.names s → (Fine u.names s.world → Coming u.names s.taken s.world d) → Ends u.names (after_doing b line d s)
   acted-ends line (Answers v w t) s h c = noted-holds u.names s w t h (λ f. (c f).comes)
   acted-ends line (Fails y None w t) s h c = fault-passes u.names s w t None (verdict_of y) h (λ f. (c f).comes)
   acted-ends line (Fails y (Some p) w t) s h c = fault-passes u.names s w t (Some (blame_of s.world.memory p)) (verdict_of y) h (λ f. (c f).comes)
   acted-ends line (Breaks y p w t) s h c = fault-passes u.names s w t p (verdict_of y) h (λ f. (c f).comes)
 
-  act-ends : (line : ℕ) (o : Op) (s : State) → Holds u.names s → Ends u.names (acted b line (does b o s.world) s)
+  act-ends : (line : ℕ) (o : Op) (s : State) → Holds u.names s → Ends u.names (after_doing b line (does b o s.world) s)
   act-ends line o s h = acted-ends line (does b o s.world) s h (λ f. does-come b named filled s.taken o s.world f)
 
   -- each way of making pieces
@@ -181,7 +181,7 @@ module _ (u : Stored) (n : ℕ) (named : HasNames (whole u)) (filled : HasNoEmpt
   alike k = even-closed b b.bound b.sides passing.ways (λ A s h. holds_pass u.names s h) k
 
   -- nothing is made yet
-  first-holds : (script : List ScriptLine) → Holds u.names (first script true)
+  first-holds : (script : List ScriptLine) → Holds u.names (initial_state script true)
   first-holds script fits = record {
     turn = 0;
     le = omega arith;
@@ -216,7 +216,7 @@ module _ (u : Stored) (n : ℕ) (named : HasNames (whole u)) (filled : HasNoEmpt
 
   run-ends : (script : List ScriptLine) → Ends u.names (run_at u None true script n)
   unfolding run_of
-  run-ends script = run-closed b n b.sides passing n (alike n) (first script true) (first-holds script)
+  run-ends script = run-closed b n b.sides passing n (alike n) (initial_state script true) (first-holds script)
 
 ends_pass : {A : Type 0} (names : List (List ℕ)) (r : Res A) → Ends names r → AllPass names (end_of r)
 ends_pass names (Gives a s) h = holds_pass names s h
@@ -232,14 +232,14 @@ passed_tells names events k h = by (after_events names at_first events) refl h
         events_front names (take k events) (drop k events) at_first t (ap (after_events names at_first) (take-append-drop k events) ∙ e)
         (λ u first. tells_journal names (take k events) u first)
 
-run_passes : (u : Stored) (script : List ScriptLine) (n : ℕ) → HasNames (whole u) → HasNoEmptyTag u → Each FitsLine (run_end u script n).events → IsSome (after_events u.names at_first (events_at u script n))
+run_passes : (u : Stored) (script : List ScriptLine) (n : ℕ) → HasNames (whole_unit u) → HasNoEmptyTag u → Each FitsLine (run_end u script n).events → IsSome (after_events u.names at_first (events_at u script n))
 run_passes u script n named filled fits = ends_pass u.names (run_at u None true script n) (run-ends u n named filled script) fits
 
 -- what is written of the first events of a run is a journal, of all of them, too
-pub run_tells_first : (u : Stored) (script : List ScriptLine) (n k : ℕ) → HasNames (whole u) → HasNoEmptyTag u → Each FitsLine (run_end u script n).events → TellsAJournal (take k (events_at u script n)) u.names
+pub run_tells_first : (u : Stored) (script : List ScriptLine) (n k : ℕ) → HasNames (whole_unit u) → HasNoEmptyTag u → Each FitsLine (run_end u script n).events → TellsAJournal (take k (events_at u script n)) u.names
 run_tells_first u script n k named filled fits = passed_tells u.names (events_at u script n) k (run_passes u script n named filled fits)
 
-pub run_tells : (u : Stored) (script : List ScriptLine) (n : ℕ) → HasNames (whole u) → HasNoEmptyTag u → Each FitsLine (run_end u script n).events → TellsAJournal (events_at u script n) u.names
+pub run_tells : (u : Stored) (script : List ScriptLine) (n : ℕ) → HasNames (whole_unit u) → HasNoEmptyTag u → Each FitsLine (run_end u script n).events → TellsAJournal (events_at u script n) u.names
 run_tells u script n named filled fits =
     let events = events_at u script n in
     subst (λ l. TellsAJournal l u.names) (take_all events (length events) refl) (run_tells_first u script n (length events) named filled fits)

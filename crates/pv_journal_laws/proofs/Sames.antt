@@ -5,7 +5,7 @@ use Rattle.pv_script.specs.Names.{name_at}
 use Rattle.pv_journal_laws.specs.Naming.{AreDistinct}
 use Rattle.pv_prov.specs.declared.pairs.Twin.{Twin}
 use Rattle.pv_prov.specs.declared.names.Prov.TheVariants as prov
-use Rattle.pv_prov.specs.Names.{twin_at, kept}
+use Rattle.pv_prov.specs.Names.{twin_at, after_narrowing}
 use Rattle.pv_prov.specs.NameParts.{those_kept}
 use Rattle.pv_inst.specs.declared.values.Instance.{Instance}
 use Rattle.pv_inst.specs.Table.{Table, instance_at}
@@ -21,7 +21,7 @@ module _ (names : List (List ℕ)) (distinct : AreDistinct names) (turn : ℕ) (
   -- what is told of a use of pair k beside another operand
   abbrev pub KeepTells : Table → (k : ℕ) → (pair : Option ℕ) → (low high : Bool) → Type 0
   KeepTells T k pair low high =
-      told_from names (at_table names turn past T) (used_pair pair same_test (record { pair = pair; low = low; high = high })) ≡ Some (state_of names turn past T.instances (kept T.pairs k low high))
+      told_from names (at_table names turn past T) (used_pair pair same_test (record { pair = pair; low = low; high = high })) ≡ Some (state_of names turn past T.instances (after_narrowing T.pairs k low high))
 
   both_kept : (T : Table) (k : ℕ) (t : Twin) (x y : Instance) (low high : Bool) → AreCalled names T → AllFill T.instances → 1 ≤ k → twin_at T.pairs k ≡ Some t → t.keeps_low ≡ true → t.keeps_high ≡ true
       → instance_at T.instances t.low ≡ Some x → instance_at T.instances t.high ≡ Some y → x.base + x.size ≡ y.base → (low ≡ true) ⊎ (high ≡ true) → (low ≡ true → x.live ≡ true) → (high ≡ true → y.live ≡ true)

@@ -13,7 +13,7 @@ use Rattle.pv_watch.specs.declared.event.What.TheVariants as what
 use Rattle.pv_fault.specs.declared.verdict.Verdict.{Verdict}
 use Rattle.pv_world.specs.Telling.{fault_of}
 use Rattle.pv_world.specs.declared.failing.Blame.{Blame}
-use Rattle.pv_eval.specs.Acting.{stamped}
+use Rattle.pv_eval.specs.Acting.{marked_events}
 use Rattle.pv_exec.specs.Outlets.{event_of}
 use Rattle.pv_journal.specs.Journals.{Id, Fact, Made, Ended, Exposed, Paired, Used, Fault}
 use Rattle.pv_journal_laws.specs.Runs.{FitsLine}
@@ -101,8 +101,8 @@ left_by (e ∷ es) s u = u
 turn_same : (s : State) (n : ℕ) → s.turn ≡ n → record s { turn = n } ≡ s
 turn_same s n e = λ i. record { held = s.held; bonds = s.bonds; turn = sym e i; over = s.over }
 
-pub stamped_from : (names : List (List ℕ)) (n m : ℕ) (es : List What) (s u : State) → s.over ≡ false → s.turn ≤ n → Each FitsLine (stamped n m es) → told_from names (record s { turn = n }) es ≡ Some u → u.over ≡ false
-    → after_events names s (map event_of (stamped n m es)) ≡ Some (left_by es s u)
+pub stamped_from : (names : List (List ℕ)) (n m : ℕ) (es : List What) (s u : State) → s.over ≡ false → s.turn ≤ n → Each FitsLine (marked_events n m es) → told_from names (record s { turn = n }) es ≡ Some u → u.over ≡ false
+    → after_events names s (map event_of (marked_events n m es)) ≡ Some (left_by es s u)
 stamped_from names n m [] s u over le fits h o = refl
 stamped_from names n m (e ∷ es) s u over le fits h o =
     and_some (λ t. told_from names t es) (after_what names (record s { turn = n }) e) u h (λ t first rest.
@@ -111,7 +111,7 @@ stamped_from names n m (e ∷ es) s u over le fits h o =
     let same : record t { turn = n } ≡ t = turn_same t n flat.turn in
     let le' : t.turn ≤ n = (let q = flat.turn in omega (arith, q)) in
     let next = stamped_from names n m es t u open_still le' fits.1 (ap (λ x. told_from names x es) same ∙ rest) o in
-    ap (option_and_then (λ x. after_events names x (map event_of (stamped n m es)))) (event_passes names s t n e over le fits.0.turn first) ∙ next ∙ ap Some (last t es rest))
+    ap (option_and_then (λ x. after_events names x (map event_of (marked_events n m es)))) (event_passes names s t n e over le fits.0.turn first) ∙ next ∙ ap Some (last t es rest))
   where
     last : (t : State) (es : List What) → told_from names t es ≡ Some u → left_by es t u ≡ u
     last t [] h = same_Some t u h
@@ -132,7 +132,7 @@ events_front names (e ∷ es) fs s t h k =
     and_some (λ u. after_events names u (es ++ fs)) (after_event names s e) t h (λ u first rest.
     events_front names es fs u t rest (λ v all. k v (ap (option_and_then (λ u. after_events names u es)) first ∙ all)))
 
-pub stamped_append : (n m : ℕ) (es fs : List What) → stamped n m (es ++ fs) ≡ stamped n m es ++ stamped n m fs
+pub stamped_append : (n m : ℕ) (es fs : List What) → marked_events n m (es ++ fs) ≡ marked_events n m es ++ marked_events n m fs
 stamped_append n m [] fs = refl
 stamped_append n m (e ∷ es) fs = ap (λ l. record { event = record { turn = n; what = e }; mark = m } ∷ l) (stamped_append n m es fs)
 
@@ -145,14 +145,14 @@ each_parts P [] ys h = (tt, h)
 each_parts P (x ∷ xs) ys h = let r = each_parts P xs ys h.1 in ((h.0, r.0), r.1)
 
 -- numbers of new instances that are words are few
-pub few_stamped : (n m : ℕ) (es : List What) → Each FitsLine (stamped n m es) → AreFew es
+pub few_stamped : (n m : ℕ) (es : List What) → Each FitsLine (marked_events n m es) → AreFew es
 few_stamped n m [] h = tt
 few_stamped n m (e ∷ es) h = (h.0.few, few_stamped n m es h.1)
 
 -- ---- a fault
 
 -- it passes, whatever it carries
-pub fault_passes : (names : List (List ℕ)) (n m : ℕ) (b : Option Blame) (o : Option Verdict) (s : State) → s.over ≡ false → s.turn ≤ n → Each FitsLine (stamped n m (fault_of b o)) → IsSome (after_events names s (map event_of (stamped n m (fault_of b o))))
+pub fault_passes : (names : List (List ℕ)) (n m : ℕ) (b : Option Blame) (o : Option Verdict) (s : State) → s.over ≡ false → s.turn ≤ n → Each FitsLine (marked_events n m (fault_of b o)) → IsSome (after_events names s (map event_of (marked_events n m (fault_of b o))))
 fault_passes names n m b None s over le fits = refl
 fault_passes names n m None (Some v) s over le fits =
     some_of _ (record s { turn = n; over = true }) (ap (option_and_then (λ x. Some x)) (event_passes names s (record s { turn = n; over = true }) n (what.Fault v None None None) over le fits.0.turn refl))

@@ -10,7 +10,7 @@ use Rattle.pv_journal_laws.specs.Naming.{AreDistinct}
 use Rattle.pv_prov.specs.declared.pairs.Twin.{Twin}
 use Rattle.pv_prov.specs.declared.names.Prov.{Prov}
 use Rattle.pv_prov.specs.declared.names.Prov.TheVariants as prov
-use Rattle.pv_prov.specs.Names.{twin_at, kept, stands_of, alone}
+use Rattle.pv_prov.specs.Names.{twin_at, after_narrowing, stands_of, one_candidate}
 use Rattle.pv_prov.specs.NameParts.{keeping, those_kept}
 use Rattle.pv_inst.specs.declared.values.Instance.{Instance}
 use Rattle.pv_inst.specs.declared.values.Test.{Test}
@@ -19,7 +19,7 @@ use Rattle.pv_inst.specs.declared.values.Tried.{Tried}
 use Rattle.pv_inst.specs.declared.values.Miss.{Miss}
 use Rattle.pv_inst.specs.declared.values.Miss.TheVariants as miss
 use Rattle.pv_inst.specs.Table.{Table, instance_at}
-use Rattle.pv_inst.specs.Use.{passes, survives, any_survives, judged, if_two, use_answer, settled, is_heap, is_function, miss_of, empty_answer, test_number}
+use Rattle.pv_inst.specs.Use.{passes, survives, any_survives, test_answer, if_two, use_answer, after_use, is_heap, is_function, miss_of, empty_answer, test_number}
 use Rattle.pv_inst.specs.SameParts.{made_passes}
 use Rattle.pv_inst.specs.WellFormed.{HasMet}
 use Rattle.pv_inst.proofs.Rows.{row_found}
@@ -121,7 +121,7 @@ module _ (names : List (List ℕ)) (distinct : AreDistinct names) where
   -- the event, where both are kept
   two_kept : (turn : ℕ) (over : Bool) (T : Table) (k : ℕ) (t : Twin) (x y : Instance) (test : Test) → AreCalled names T → AllFill T.instances → 1 ≤ k → twin_at T.pairs k ≡ Some t → t.keeps_low ≡ true → t.keeps_high ≡ true
       → instance_at T.instances t.low ≡ Some x → instance_at T.instances t.high ≡ Some y → x.base + x.size ≡ y.base → (passes true x test || passes true y test) ≡ true
-      → told_from names (at_table names turn over T) (what.Tried k (test_number test) (passes true x test) (passes true y test) ∷ []) ≡ Some (state_of names turn over T.instances (kept T.pairs k (passes true x test) (passes true y test)))
+      → told_from names (at_table names turn over T) (what.Tried k (test_number test) (passes true x test) (passes true y test) ∷ []) ≡ Some (state_of names turn over T.instances (after_narrowing T.pairs k (passes true x test) (passes true y test)))
   two_kept turn over T k t x y test called fill one at kl kh lat hat meet any =
       let some = row_all (λ (z : Instance). 1 ≤ z.size) T.instances t.low x fill lat in
       let may = may_use names x y test (row_all (λ (z : Instance). is_heap z.kind ≡ true → name_at names z.name ≡ codes "@heap") T.instances t.low x called.heap lat)
@@ -131,7 +131,7 @@ module _ (names : List (List ℕ)) (distinct : AreDistinct names) where
 
 -- ---- a use of any name
 
-pub keeps_as : (ts : List Twin) (k : ℕ) (t : Twin) (low high : Bool) → twin_at ts k ≡ Some t → low ≡ t.keeps_low → high ≡ t.keeps_high → kept ts k low high ≡ ts
+pub keeps_as : (ts : List Twin) (k : ℕ) (t : Twin) (low high : Bool) → twin_at ts k ≡ Some t → low ≡ t.keeps_low → high ≡ t.keeps_high → after_narrowing ts k low high ≡ ts
 keeps_as ts k t low high at l h =
     let same : record { low = t.low; high = t.high; keeps_low = low; keeps_high = high } ≡ t = (λ n. record { low = t.low; high = t.high; keeps_low = l n; keeps_high = h n }) in
     ap (λ o. keeping o ts k low high) at ∙ ap (λ u. set ts (k - 1) u) same ∙ set_same ts (k - 1) t at
@@ -139,13 +139,13 @@ keeps_as ts k t low high at l h =
 -- the answer of a use, with this zap
 abbrev answer_by : (zap : Bool) → Table → Prov → Test → Result Tried Miss
 answer_by zap T prov.Empty t = empty_answer t
-answer_by zap T (prov.Inst i) t = judged zap T.instances (alone i) None t
-answer_by zap T (prov.Pair k) t = judged zap T.instances (stands_of (twin_at T.pairs k)) (if_two k (stands_of (twin_at T.pairs k))) t
+answer_by zap T (prov.Inst i) t = test_answer zap T.instances (one_candidate i) None t
+answer_by zap T (prov.Pair k) t = test_answer zap T.instances (stands_of (twin_at T.pairs k)) (if_two k (stands_of (twin_at T.pairs k))) t
 
 module _ (names : List (List ℕ)) (distinct : AreDistinct names) where
   -- what is told of a use, and what it leaves
   abbrev pub UsePasses : (turn : ℕ) (over : Bool) → Table → Prov → Test → Result Tried Miss → Type 0
-  UsePasses turn over T p test answer = told_from names (at_table names turn over T) (uses (test_number test) answer) ≡ Some (state_of names turn over T.instances (settled T p answer).pairs)
+  UsePasses turn over T p test answer = told_from names (at_table names turn over T) (uses (test_number test) answer) ≡ Some (state_of names turn over T.instances (after_use T p answer).pairs)
 
   alone_passes : (turn : ℕ) (over : Bool) (T : Table) (i : ℕ) (test : Test) (a : Bool) (low high : Bool) (m : Miss)
       → UsePasses turn over T (prov.Inst i) test (if a then Ok (record { pair = None; low = low; high = high }) else Err m)
@@ -166,7 +166,7 @@ module _ (names : List (List ℕ)) (distinct : AreDistinct names) where
 
   -- a pair that was made, whatever it keeps
   pair_passes_use : (turn : ℕ) (over : Bool) (T : Table) (k : ℕ) (t : Twin) (test : Test) → AreCalled names T → AllFill T.instances → 1 ≤ k → twin_at T.pairs k ≡ Some t → HasMet T.instances t
-      → UsePasses turn over T (prov.Pair k) test (judged true T.instances (those_kept t) (if_two k (those_kept t)) test)
+      → UsePasses turn over T (prov.Pair k) test (test_answer true T.instances (those_kept t) (if_two k (those_kept t)) test)
   pair_passes_use turn over T k t test called fill one at met =
       met_rows T.instances t.low t.high met (λ x y lat hat meet. by x y lat hat meet t.keeps_low t.keeps_high refl refl)
     where
@@ -175,7 +175,7 @@ module _ (names : List (List ℕ)) (distinct : AreDistinct names) where
       low_so false h = h
 
       by : (x y : Instance) → instance_at T.instances t.low ≡ Some x → instance_at T.instances t.high ≡ Some y → x.base + x.size ≡ y.base → (kl kh : Bool) → t.keeps_low ≡ kl → t.keeps_high ≡ kh
-          → UsePasses turn over T (prov.Pair k) test (judged true T.instances (record { low = if kl then Some t.low else None; high = if kh then Some t.high else None })
+          → UsePasses turn over T (prov.Pair k) test (test_answer true T.instances (record { low = if kl then Some t.low else None; high = if kh then Some t.high else None })
           (if_two k (record { low = if kl then Some t.low else None; high = if kh then Some t.high else None })) test)
       by x y lat hat meet true true el eh =
           let here = ap (λ o. made_passes true o test) lat in
@@ -196,11 +196,11 @@ module _ (names : List (List ℕ)) (distinct : AreDistinct names) where
   numbered_passes turn over T prov.Empty (Range a n) called fill met made zap z = refl
   numbered_passes turn over T prov.Empty (Block a) called fill met made zap z = refl
   numbered_passes turn over T prov.Empty (Code a) called fill met made zap z = refl
-  numbered_passes turn over T (prov.Inst i) test called fill met made zap z = alone_passes turn over T i test (any_survives zap T.instances (alone i) test) _ _ _
+  numbered_passes turn over T (prov.Inst i) test called fill met made zap z = alone_passes turn over T i test (any_survives zap T.instances (one_candidate i) test) _ _ _
   numbered_passes turn over T (prov.Pair k) test called fill met made zap z =
       subst (λ b. UsePasses turn over T (prov.Pair k) test (answer_by b T (prov.Pair k) test)) (sym z) (by (twin_at T.pairs k) refl)
     where
-      by : (o : Option Twin) → twin_at T.pairs k ≡ o → UsePasses turn over T (prov.Pair k) test (judged true T.instances (stands_of o) (if_two k (stands_of o)) test)
+      by : (o : Option Twin) → twin_at T.pairs k ≡ o → UsePasses turn over T (prov.Pair k) test (test_answer true T.instances (stands_of o) (if_two k (stands_of o)) test)
       by None e = refl
       by (Some t) e = pair_passes_use turn over T k t test called fill made e (all_here (HasMet T.instances) T.pairs (k - 1) t met e)
 

@@ -10,8 +10,8 @@ use Rattle.pv_types.proofs.Fills.{layout_fills}
 use Rattle.pv_inst.specs.declared.values.Instance.{Instance}
 use Rattle.pv_inst.specs.Table.{Table, instance_at, IsMadeIn}
 use Rattle.pv_shadow.specs.declared.byte.Byte.{Byte}
-use Rattle.pv_shadow.specs.Bytes.{read, written}
-use Rattle.pv_shadow.specs.Whole.{plain}
+use Rattle.pv_shadow.specs.Bytes.{bytes_from, with_bytes_at}
+use Rattle.pv_shadow.specs.Whole.{number_bytes}
 use Rattle.pv_object.specs.declared.values.Pointer.{Pointer}
 use Rattle.pv_object.specs.declared.values.Reach.{Reach}
 use Rattle.pv_object.specs.declared.values.Stop.{Stop}
@@ -30,14 +30,14 @@ use Rattle.pv_libc.specs.declared.values.Arg.{Arg}
 use Rattle.pv_libc.specs.declared.values.Reply.{Reply}
 use Rattle.pv_libc.specs.declared.values.Reply.TheVariants as reply
 use Rattle.pv_libc.specs.Steps.{Now}
-use Rattle.pv_libc.specs.Calls.{called, output}
+use Rattle.pv_libc.specs.Calls.{reply_to_call, output}
 use Rattle.pv_watch.specs.declared.event.What.{What}
 use Rattle.pv_world.specs.declared.got.Shape.{Shape}
 use Rattle.pv_world.specs.declared.got.Shape.TheVariants as shape
 use Rattle.pv_world.specs.Worlds.{Worth, Nothing, Missing, Scalar, Whole, World, with_table}
-use Rattle.pv_world.specs.Worths.{truth_int, pointer_of, bytes_of, value_of, unplain, unpresent}
+use Rattle.pv_world.specs.Worths.{truth_int, pointer_of, bytes_of, value_of, why_not_set, why_missing}
 use Rattle.pv_world.specs.Conversions.{opposite}
-use Rattle.pv_world.specs.Telling.{Told, quiet, telling}
+use Rattle.pv_world.specs.Telling.{Told, no_telling, telling}
 use Rattle.pv_world.specs.Doing.{Done, Answers}
 use Rattle.pv_world.specs.Coming.{IsMadeWorth}
 use Rattle.pv_world.specs.Accesses.{is_inexact, stored_as, mark_of}
@@ -50,7 +50,7 @@ use Rattle.pv_eval.specs.Accesses.{access_to, reads_at, reads, writes_alone, wri
 use Rattle.pv_eval.specs.Objects.{where_possible, heap_name, request_of, makes, instance_for, ends, makes_literal, makes_function, can_fill, can_put, can_put_text, text_for, can_make}
 use Rattle.pv_eval.specs.ObjectParts.{can_place}
 use Rattle.pv_eval.specs.Callees.{may_call}
-use Rattle.pv_eval.specs.Library.{replied, with_memory, asked, asks, told_of}
+use Rattle.pv_eval.specs.Library.{done_by_reply, with_memory, done_by_call, asks, told_of}
 use Rattle.pv_eval.specs.LibraryParts.{all_noted}
 use Rattle.pv_world.specs.Suiting.{is_size, is_live, knows_worth, is_stored, live_in}
 use Rattle.pv_eval.specs.Operations.{Op, Converts, Calculates, CalculatesOne, Tests, Negates, Accepts, Needs, Moves, Subtracts, Orders, Equals, Follows, Selects, Finds, TakesPart, Reads, Writes, NamesObject, NamesLiteral, NamesFunction, Makes, MakesLiteral, MakesFunction, Ends, BeginsBody, EndsBody, Fills, Puts, PutsText, Asks, suits, works, does}
@@ -155,7 +155,7 @@ module _ (b : Setting) (u : HasNames b.unit) (filled : Filled b) (turn : ℕ) wh
   reads-on l p rivals w f at T us t =
       if-comes (permits b (with_table w T) l at false) w _ _
       (λ e. if-comes (conflicts (access_to l p false) rivals) w _ _ (λ e. record { comes = passed_told f t })
-      (λ e. worth-comes ns u.distinct turn w (with_table w T) (read w.memory.bytes at.address l.size) l.shape (Some at.address) (Some p.prov) (telling us) f (record { tells = t; named = λ n. n })
+      (λ e. worth-comes ns u.distinct turn w (with_table w T) (bytes_from w.memory.bytes at.address l.size) l.shape (Some at.address) (Some p.prov) (telling us) f (record { tells = t; named = λ n. n })
       (read_numbered w.memory.bytes at.address l.size f.named)))
       (λ e. record { comes = passed_told f t })
 
@@ -177,25 +177,25 @@ module _ (b : Setting) (u : HasNames b.unit) (filled : Filled b) (turn : ℕ) wh
 
   writes-come : (l : Lvalue) (place v : Worth) (from : Option ℕ) (rivals : List Access) (w : World) → Fine ns w → IsNumbered (pointer_of place).prov → IsMadeWorth w.memory.table v → C w (writes b l place v from rivals w)
   writes-come l place v from rivals w f h m =
-      unless-comes ns u.distinct turn (unpresent v) w _ (reaching-comes ns u.distinct turn (pointer_of place) l.size l.align true w (writes_at b l (pointer_of place) v from rivals) f h (writes-on l (pointer_of place) v from rivals w f m))
+      unless-comes ns u.distinct turn (why_missing v) w _ (reaching-comes ns u.distinct turn (pointer_of place) l.size l.align true w (writes_at b l (pointer_of place) v from rivals) f h (writes-on l (pointer_of place) v from rivals w f m))
 
   -- calls of the library
-  replied-comes : (r : Reply) (w x : World) (t : Told) → Fine ns w → Answered ns turn w t.events x → C w (replied r x t)
+  replied-comes : (r : Reply) (w x : World) (t : Told) → Fine ns w → Answered ns turn w t.events x → C w (done_by_reply r x t)
   replied-comes reply.Nothing w x t f a = record { comes = a }
   replied-comes (reply.Value v) w x t f a = record { comes = a }
   replied-comes (reply.Exit n) w x t f a = record { comes = passed_told f a.tells }
   replied-comes reply.Abort w x t f a = record { comes = passed_told f a.tells }
   replied-comes (reply.Placement e) w x t f a = record { comes = passed_told f a.tells }
 
-  asked-comes : (w : World) (text : List ℕ) (r : Result Reply Stop) (S : Now) → Fine ns w → Answered ns turn w (all_noted S.memory.table S.notes) (with_memory w S.memory) → C w (asked w text r S)
+  asked-comes : (w : World) (text : List ℕ) (r : Result Reply Stop) (S : Now) → Fine ns w → Answered ns turn w (all_noted S.memory.table S.notes) (with_memory w S.memory) → C w (done_by_call w text r S)
   asked-comes w text (Ok r) S f a = replied-comes r w (with_memory w S.memory) (told_of S.memory S.notes text) f a
   asked-comes w text (Err y) S f a = record { comes = passed_told f a.tells }
 
   asks-come : (g : Library) (args : List Arg) (w : World) → Fine ns w → AreNumberedArguments args → C w (asks g args w)
   asks-come g args w f n =
-      let S = (called g args w.memory).after in
+      let S = (reply_to_call g args w.memory).after in
       let goes = called-goes ns u.distinct turn (record { there = u.two; text = u.heap }) g args w.memory n in
-      asked-comes w (output g args w.memory) (called g args w.memory).answer S f
+      asked-comes w (output g args w.memory) (reply_to_call g args w.memory).answer S f
       (record { tells = subst (λ l. Tells ns turn w.memory.table (all_noted S.memory.table l) S.memory.table) (sym goes.notes) (goes.tells f.none S.memory.table led-itself); named = goes.named })
 
   -- instances
@@ -223,7 +223,7 @@ module _ (b : Setting) (u : HasNames b.unit) (filled : Filled b) (turn : ℕ) wh
       possible-comes (is_live w i) w _ (λ e. let x = lives (instance_at w.memory.table.instances i) e in ends-come ns u.distinct turn w i x.0 x.1 x.2)
 
   -- bytes that are put where they belong
-  put-comes : (w : World) (a : ℕ) (bs : List Byte) (v : Worth) → AreNumbered bs → C w (Answers v (record w { memory = record w.memory { bytes = written w.memory.bytes a bs } }) quiet)
+  put-comes : (w : World) (a : ℕ) (bs : List Byte) (v : Worth) → AreNumbered bs → C w (Answers v (record w { memory = record w.memory { bytes = with_bytes_at w.memory.bytes a bs } }) no_telling)
   put-comes w a bs v n = record { comes = record { tells = tells-itself; named = λ h. named_written w.memory.bytes a bs n h } }
 
   -- two operands whose names were made
@@ -231,14 +231,14 @@ module _ (b : Setting) (u : HasNames b.unit) (filled : Filled b) (turn : ℕ) wh
   subtracts-come size v x w f e =
       let T = w.memory.table in
       let both = right_of (nat_le 1 size) (knows_worth T v && knows_worth T x) (right_of (is_size size) _ e) in
-      unless-comes ns u.distinct turn (unplain v) w _ (unless-comes ns u.distinct turn (unplain x) w _ (between-come ns u.distinct turn size (pointer_of v) (pointer_of x) w f
+      unless-comes ns u.distinct turn (why_not_set v) w _ (unless-comes ns u.distinct turn (why_not_set x) w _ (between-come ns u.distinct turn size (pointer_of v) (pointer_of x) w f
       (known_made T v (left_of (knows_worth T v) (knows_worth T x) both)) (known_made T x (right_of (knows_worth T v) (knows_worth T x) both))))
 
   orders-come : (op : BinOp) (v x : Worth) (w : World) → suits b (Orders op v x) w ≡ true → C w (works b (Orders op v x) w)
   orders-come op v x w e =
       let T = w.memory.table in
       let both = right_of _ (knows_worth T v && knows_worth T x) e in
-      unless-comes ns u.distinct turn (unplain v) w _ (unless-comes ns u.distinct turn (unplain x) w _ (order-comes ns u.distinct turn op (pointer_of v) (pointer_of x) w
+      unless-comes ns u.distinct turn (why_not_set v) w _ (unless-comes ns u.distinct turn (why_not_set x) w _ (order-comes ns u.distinct turn op (pointer_of v) (pointer_of x) w
       (known_made T v (left_of (knows_worth T v) (knows_worth T x) both)) (known_made T x (right_of (knows_worth T v) (knows_worth T x) both))))
 
   works-come : (o : Op) (w : World) → Fine ns w → suits b o w ≡ true → C w (works b o w)
@@ -247,8 +247,8 @@ module _ (b : Setting) (u : HasNames b.unit) (filled : Filled b) (turn : ℕ) wh
   works-come (CalculatesOne op k v) w f e = calculates-one-come ns u.distinct turn op k v w
   works-come (Tests v) w f e = tests-come ns u.distinct turn truth_int v w (known_numbered w.memory.table v e)
   works-come (Negates v) w f e = tests-come ns u.distinct turn opposite v w (known_numbered w.memory.table v e)
-  works-come (Accepts v) w f e = unless-comes ns u.distinct turn (unpresent v) w _ (still ns u.distinct turn w _)
-  works-come (Needs v) w f e = unless-comes ns u.distinct turn (unplain v) w _ (still ns u.distinct turn w _)
+  works-come (Accepts v) w f e = unless-comes ns u.distinct turn (why_missing v) w _ (still ns u.distinct turn w _)
+  works-come (Needs v) w f e = unless-comes ns u.distinct turn (why_not_set v) w _ (still ns u.distinct turn w _)
   works-come (Moves minus first size v x) w f e =
       let T = w.memory.table in
       let both = right_of _ (knows_worth T v && knows_worth T x) (right_of (is_size size) _ e) in
@@ -282,7 +282,7 @@ module _ (b : Setting) (u : HasNames b.unit) (filled : Filled b) (turn : ℕ) wh
       let T = w.memory.table in
       possible-comes (can_put b o offset l v w) w _
       (λ c. put-comes w _ (stored_as l.number l.shape v) _ (stored_numbered T l.number l.shape v (worth_made T v (right_of (is_stored l.shape l.size v) (knows_worth T v) (left_of _ _ (right_of (is_size l.size) _ c))))))
-  works-come (PutsText o offset size l) w f e = possible-comes (can_put_text b o offset size l w) w _ (λ c. put-comes w _ (plain None 0 (text_for b size l)) _ (plain_numbered None 0 (text_for b size l)))
+  works-come (PutsText o offset size l) w f e = possible-comes (can_put_text b o offset size l w) w _ (λ c. put-comes w _ (number_bytes None 0 (text_for b size l)) _ (plain_numbered None 0 (text_for b size l)))
   works-come (Asks g args) w f e = asks-come g args w f (arguments_numbered w.memory.table args (arguments_made w.memory.table args e))
 
   pub does-come : (o : Op) (w : World) → Fine ns w → C w (does b o w)

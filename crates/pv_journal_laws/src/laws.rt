@@ -7,7 +7,7 @@ ghost use Rattle.pv_lex.specs.Lexes.{Lexes};
 ghost use Rattle.pv_token.specs.Table.{Table};
 ghost use Rattle.pv_tree.specs.Syntax.{DeclarationTree};
 ghost use Rattle.pv_typed.specs.Known.{Each, AreKnown};
-ghost use Rattle.pv_typed.specs.Tables.{Stored, whole};
+ghost use Rattle.pv_typed.specs.Tables.{Stored, whole_unit};
 ghost use Rattle.pv_unit.specs.Units.{UnitComes, Typed};
 ghost use Rattle.pv_eval.specs.States.{end_of};
 ghost use Rattle.pv_exec.specs.declared.outcome.Outcome.TheVariants as outcome;
@@ -28,9 +28,9 @@ ghost use Rattle.pv_journal_laws.specs.Runs.{run_end, events_at, is_upto, FitsLi
 /// names that instances may have and that no structure is empty (`units_are_named`, and `check` of `pv_unit` promise that), and that
 /// 64 bits can say the turns, and which instance of its name each is (`words_fit_lines`, and `run` of `pv_exec`).
 pub fn events_obey()
-    ensures obey { (u : Stored) (script : List ScriptLine) (n : ℕ) → HasNames (whole u) → HasNoEmptyTag u →
+    ensures obey { (u : Stored) (script : List ScriptLine) (n : ℕ) → HasNames (whole_unit u) → HasNoEmptyTag u →
         Each FitsLine (run_end u script n).events → TellsAJournal (events_at u script n) u.names }
-    ensures first { (u : Stored) (script : List ScriptLine) (n k : ℕ) → HasNames (whole u) → HasNoEmptyTag u →
+    ensures first { (u : Stored) (script : List ScriptLine) (n k : ℕ) → HasNames (whole_unit u) → HasNoEmptyTag u →
         Each FitsLine (run_end u script n).events → TellsAJournal (take k (events_at u script n)) u.names }
 {}
 
@@ -43,7 +43,7 @@ pub fn words_fit_lines()
 /// literals and allocations, each has one number, and each object and each function has one.
 pub fn units_are_named()
     ensures named { (source : List ℕ) (t : Table) (ds : List DeclarationTree) (m : Stored) →
-        Lexes source t → UnitComes t ds (Typed (whole m)) → AreKnown m → HasNames (whole m) }
+        Lexes source t → UnitComes t ds (Typed (whole_unit m)) → AreKnown m → HasNames (whole_unit m) }
 {}
 
 /// A law: the events of a run at a lesser bound are those of the run at a greater one that came at its turns (C17 5.1.2.3). It ends by

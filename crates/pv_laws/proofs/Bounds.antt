@@ -8,12 +8,12 @@ use Rattle.pv_typed.specs.Tables.{Stored}
 use Rattle.pv_world.specs.Worlds.{Worth, World}
 use Rattle.pv_world.specs.Doing.{Done, Answers, Fails, Breaks}
 use Rattle.pv_eval.specs.States.{Setting, State, Turns, Res, Gives, Stops, then_do, end_of, spend}
-use Rattle.pv_eval.specs.Acting.{acted}
+use Rattle.pv_eval.specs.Acting.{after_doing}
 use Rattle.pv_eval.specs.Constants.{constant_worth}
 use Rattle.pv_eval.specs.Operations.{Op, Puts, does, act}
 use Rattle.pv_eval.proofs.Closed.{beside_setting}
 use Rattle.pv_exec.specs.Calls.{below}
-use Rattle.pv_exec.specs.Run.{setting_of, first, run_of}
+use Rattle.pv_exec.specs.Run.{setting_of, initial_state, run_of}
 use Rattle.pv_exec.specs.Laws.{run_at}
 use Rattle.pv_exec.proofs.Executed.{WaysIn, Alike, below-closed, run-closed}
 use Rattle.pv_exec.specs.Staying.{InstancesRemain, PairsSettle}
@@ -25,13 +25,13 @@ use Rattle.pv_exec.proofs.Memory.Runs.{Passes, tick-passes, seq-passes, act-pass
 same-does : (b : Setting) (n : ℕ) (o : Op) (w : World) → does (beside_setting b n b.sides) o w ≡ does b o w
 same-does b n o w = refl
 
-same-acted : (b : Setting) (n line : ℕ) (d : Done) (s : State) → acted (beside_setting b n b.sides) line d s ≡ acted b line d s
+same-acted : (b : Setting) (n line : ℕ) (d : Done) (s : State) → after_doing (beside_setting b n b.sides) line d s ≡ after_doing b line d s
 same-acted b n line (Answers v w t) s = refl
 same-acted b n line (Fails y p w t) s = refl
 same-acted b n line (Breaks y p w t) s = refl
 
 same-act : (b : Setting) (n line : ℕ) (o : Op) (s : State) → act (beside_setting b n b.sides) line o s ≡ act b line o s
-same-act b n line o s = same-acted b n line (does (beside_setting b n b.sides) o s.world) s ∙ ap (λ (d : Done). acted b line d s) (same-does b n o s.world)
+same-act b n line o s = same-acted b n line (does (beside_setting b n b.sides) o s.world) s ∙ ap (λ (d : Done). after_doing b line d s) (same-does b n o s.world)
 
 -- the first has stopped, and the second led on from there
 abbrev Ahead : {A : Type 0} → Type 0 → Res A → Res A → Type 0
@@ -91,7 +91,7 @@ run-beside : (u : Stored) (sides : Option (List Bool)) (zap : Bool) (script : Li
 unfolding run_of
 run-beside u sides zap script n l le =
     let b = setting_of u n sides zap in
-    (run-closed b l sides (going b l le) n (below-closed b l sides (going b l le).ways (bottom b l le) n l le)).beside (first script zap)
+    (run-closed b l sides (going b l le) n (below-closed b l sides (going b l le).ways (bottom b l le) n l le)).beside (initial_state script zap)
 
 -- what was made is there still
 abbrev pub Stay : State → State → Type 0

@@ -3,24 +3,24 @@ use Rattle.std.proofs.Common.{◌≡◌, ℕ, ◌+◌, ◌-◌, Bool, true, fals
 use Rattle.std.specs.FinMap.{get}
 use Rattle.pv_script.specs.Lines.{ScriptLine}
 use Rattle.pv_prov.specs.declared.names.Prov.TheVariants.{Pair}
-use Rattle.pv_prov.specs.Names.{nobody, kept}
+use Rattle.pv_prov.specs.Names.{nobody, after_narrowing}
 use Rattle.pv_inst.specs.declared.values.CreateError.{CreateError}
 use Rattle.pv_inst.specs.Answers.{IsLive}
-use Rattle.pv_inst.specs.Ending.{ended}
+use Rattle.pv_inst.specs.Ending.{after_end}
 use Rattle.pv_inst.specs.Finding.{reaches, begins, number_of, both_found, table_by, after_name, fitting}
 use Rattle.pv_inst.specs.Placing.{Request, place}
 use Rattle.pv_inst.specs.Table.{Table}
 use Rattle.pv_inst.specs.Use.{use_answer}
 use Rattle.pv_shadow.specs.declared.byte.Byte.{Byte}
-use Rattle.pv_shadow.specs.Bytes.{Store, read}
+use Rattle.pv_shadow.specs.Bytes.{Store, bytes_from}
 use Rattle.pv_shadow.specs.Readings.{HasBytes}
 use Rattle.pv_shadow.proofs.Ranges.{length-read}
-use Rattle.pv_object.specs.Creating.{made, without}
+use Rattle.pv_object.specs.Creating.{with_new_bytes, without}
 use Rattle.pv_object.specs.OperationParts.{blank_in, cleared_in}
 use Rattle.pv_object.specs.Later.{still, IsLater}
 use Rattle.pv_object.specs.Memory.{Mem, with_table}
 use Rattle.pv_object.specs.Reaching.{HasLiveBytes}
-use Rattle.pv_object.specs.Copying.{with_bytes, copied}
+use Rattle.pv_object.specs.Copying.{with_bytes, after_copy}
 use Rattle.pv_object.proofs.Born.{BornOrRefused, born_or_refused, ok_err, spread_live, born, over_ended, cleared_live}
 use Rattle.pv_object.proofs.Contents.{empty_live, read_made, written_live}
 use Rattle.pv_object.proofs.Later.{later_itself, settled_later, same_later, expose_later, live_bytes_later}
@@ -61,11 +61,11 @@ name-later T a = by (eqb a 0)
     by false = both-later T (number_of (reaches a) T.instances) (number_of (begins a) T.instances)
 
 -- in a settled run
-side-later : (T : Table) (k : ℕ) (high : Bool) → IsLater T (record T { pairs = kept T.pairs k (not high) high })
+side-later : (T : Table) (k : ℕ) (high : Bool) → IsLater T (record T { pairs = after_narrowing T.pairs k (not high) high })
 side-later T k high = settled_later T (Pair k) (Ok (record { pair = None; low = not high; high = high }))
 
 -- 6.2.4p2: a new instance has blank bytes, and a request that is refused changes none
-made-bytes : (M : Mem) (r : Request) (w : Result ℕ CreateError × Table) → place M.table r ≡ w → BornOrRefused M.table w → HasLiveBytes M.table M.bytes → HasLiveBytes (made M w).1.table (made M w).1.bytes
+made-bytes : (M : Mem) (r : Request) (w : Result ℕ CreateError × Table) → place M.table r ≡ w → BornOrRefused M.table w → HasLiveBytes M.table M.bytes → HasLiveBytes (with_new_bytes M w).1.table (with_new_bytes M w).1.bytes
 made-bytes M r (Ok i, U) e o h =
     let n = born M.table U r i (ap (λ (x : Result ℕ CreateError × Table). x.0) (sym e)) (ap (λ (x : Result ℕ CreateError × Table). x.1) (sym e)) in
     subst (λ (m : Store). HasLiveBytes U m) (sym (ap (λ o. blank_in o M.bytes) n.is)) (spread_live M.table U i M.bytes n h)
@@ -79,8 +79,8 @@ without-bytes : (M : Mem) (i : ℕ) → IsLive M.table.instances i → Sound ⊥
 without-bytes M i live s h =
     let o = over_ended M.table i live in
     let laid = sound-laid ⊥ M.table s in
-    subst (λ (m : Store). HasLiveBytes (ended M.table i) m) (sym (ap (λ p. cleared_in p M.bytes) o.was))
-    (cleared_live M.table (ended M.table i) i M.bytes o (λ j x n e. laid.apart i j o.inst x n o.was e) h)
+    subst (λ (m : Store). HasLiveBytes (after_end M.table i) m) (sym (ap (λ p. cleared_in p M.bytes) o.was))
+    (cleared_live M.table (after_end M.table i) i M.bytes o (λ j x n e. laid.apart i j o.inst x n o.was e) h)
 
 -- bytes in a live instance are there
 in-live-bytes : (T : Table) (b : Store) (a n : ℕ) → AreInLive T a n → HasLiveBytes T b → HasBytes b a n
@@ -94,9 +94,9 @@ in-live-bytes T b a n l h = λ k m.
 stores-bytes : (M : Mem) (a : ℕ) (bytes : List Byte) → AreInLive M.table a (length bytes) → AreMade M.table bytes → HasLiveBytes M.table M.bytes → HasLiveBytes M.table (with_bytes M a bytes).bytes
 stores-bytes M a bytes l g h = written_live M.table M.bytes a bytes h (in-live-bytes M.table M.bytes a (length bytes) l h) g
 
-copies-bytes : (M : Mem) (to from n : ℕ) → AreInLive M.table to n → AreInLive M.table from n → HasLiveBytes M.table M.bytes → HasLiveBytes M.table (copied M to from n).bytes
+copies-bytes : (M : Mem) (to from n : ℕ) → AreInLive M.table to n → AreInLive M.table from n → HasLiveBytes M.table M.bytes → HasLiveBytes M.table (after_copy M to from n).bytes
 copies-bytes M to from n l k h =
-    stores-bytes M to (read M.bytes from n) (subst (λ m. AreInLive M.table to m) (sym (length-read M.bytes from n)) l)
+    stores-bytes M to (bytes_from M.bytes from n) (subst (λ m. AreInLive M.table to m) (sym (length-read M.bytes from n)) l)
     (read_made M.table M.bytes from n h (in-live-bytes M.table M.bytes from n k h)) h
 
 -- each way in which an operation changes a memory

@@ -8,13 +8,13 @@ use Rattle.pv_types.specs.Known.{Known, tree, env}
 use Rattle.pv_types.specs.Formed.{IsBuilt}
 use Rattle.pv_types.proofs.Wholes.{inner_parts, BeginsWhole, begins_whole}
 use Rattle.pv_layout.specs.Parts.{some_at}
-use Rattle.pv_types.specs.Sorts.{bare}
+use Rattle.pv_types.specs.Sorts.{bare_type}
 use Rattle.pv_layout.specs.declared.wanted.Sought.{Sought}
 use Rattle.pv_layout.specs.declared.wanted.Sought.TheVariants.{Leaf, Part as Whole}
 use Rattle.pv_layout.specs.Searches.{passes}
 use Rattle.pv_layout.proofs.Ahead.{bare_size, bare_complete}
 
-pub bare_inner : (env : List Entry) (t : Ty) → inner_parts env (bare t) ≡ inner_parts env t
+pub bare_inner : (env : List Entry) (t : Ty) → inner_parts env (bare_type t) ≡ inner_parts env t
 bare_inner env (ConstOf t) = bare_inner env t
 bare_inner env VoidTy = refl
 bare_inner env (IntTy k) = refl
@@ -24,7 +24,7 @@ bare_inner env (StructTag n) = refl
 bare_inner env (UnionTag n) = refl
 bare_inner env (FunctionTy t ts v) = refl
 
-pub bare_unqualified : (t : Ty) → is_const (bare t) ≡ false
+pub bare_unqualified : (t : Ty) → is_const (bare_type t) ≡ false
 bare_unqualified (ConstOf t) = bare_unqualified t
 bare_unqualified VoidTy = refl
 bare_unqualified (IntTy k) = refl
@@ -43,7 +43,7 @@ pub passes_blind : (m : Known) (s : Sought) → IsBlind (passes m s)
 passes_blind m (Leaf want) t = refl
 passes_blind m (Whole want) t = refl
 
-pub bare_passes : {A : Type 0} (f : Ty → A) → IsBlind f → (t : Ty) → f (bare t) ≡ f t
+pub bare_passes : {A : Type 0} (f : Ty → A) → IsBlind f → (t : Ty) → f (bare_type t) ≡ f t
 bare_passes f h (ConstOf t) = bare_passes f h t ∙ sym (h t)
 bare_passes f h VoidTy = refl
 bare_passes f h (IntTy k) = refl
@@ -58,7 +58,7 @@ pub record Stripped (m : Known) (u t : ℕ) : Type 0 where
   pub built : IsBuilt m
   pub inner : u < length m.terms
   pub known : t < length m.terms
-  pub is : tree m u ≡ bare (tree m t)
+  pub is : tree m u ≡ bare_type (tree m t)
   pub complete : IsTrue (is_complete_in (env m) (tree m t))
 
 module _ (m : Known) (u t : ℕ) (h : Stripped m u t) where

@@ -3,7 +3,7 @@ use Rattle.std.proofs.Common.{◌≡◌, ℕ, zero, suc, ◌-◌, ◌<◌, ◌�
 use Rattle.pv_lex.specs.declared.pieces.Fault.{Fault}
 use Rattle.pv_lex.specs.Pieces.{Piece, Stand, End, Bad, Here}
 use Rattle.pv_lex.specs.Stands.{stands}
-use Rattle.pv_lex.specs.Rows.{Place, start, behind_piece, Row, spelt}
+use Rattle.pv_lex.specs.Rows.{Place, start, behind_piece, Row, tokens_among}
 use Rattle.pv_token.specs.Table.{Table, Tells}
 use Rattle.pv_lex.specs.Lexes.{Lexes}
 use Rattle.pv_lex.specs.Faults.{FaultAt, LexFault}
@@ -63,7 +63,7 @@ either_one source = by (stops_within (length source) (start source) (omega arith
   where
     by : Stopped (start source) → ((t : Table) × Lexes source t) ⊎ ((f : Fault) × (at : ℕ) × FaultAt source f at)
     by s = elim (s.stop) as (λ w. ((t : Table) × Lexes source t) ⊎ ((f : Fault) × (at : ℕ) × FaultAt source f at)) [
-      | inl e ↦ let t = table_exists (spelt (length source) (start source) s.pieces) in inl (t.0, record { pieces = s.pieces; last = s.last; row = s.row; whole = e; tells = t.1 })
+      | inl e ↦ let t = table_exists (tokens_among (length source) (start source) s.pieces) in inl (t.0, record { pieces = s.pieces; last = s.last; row = s.row; whole = e; tells = t.1 })
       | inr b ↦ inr (b.0, _, record { pieces = s.pieces; last = s.last; row = s.row; stands_there = b.1; place = refl })
     ]
 
@@ -71,7 +71,7 @@ either_one source = by (stops_within (length source) (start source) (omega arith
 pub one_table : (source : List ℕ) (t u : Table) → Lexes source t → Lexes source u → t ≡ u
 one_table source t u l m =
     let same = rows_meet (start source) l.last m.last l.pieces m.pieces l.row m.row (end_stops l.last l.whole) (end_stops m.last m.whole) in
-    tells_same t u (spelt (length source) (start source) l.pieces) l.tells (subst (λ (z : List Piece). Tells u (spelt (length source) (start source) z)) (sym same.pieces) m.tells)
+    tells_same t u (tokens_among (length source) (start source) l.pieces) l.tells (subst (λ (z : List Piece). Tells u (tokens_among (length source) (start source) z)) (sym same.pieces) m.tells)
 
 -- a source with tokens has no fault
 pub not_both : (source : List ℕ) (t : Table) (f : Fault) (at : ℕ) → Lexes source t → FaultAt source f at → ⊥

@@ -9,7 +9,7 @@ use Rattle.pv_lex.specs.declared.pieces.Fault.TheVariants as fault
 use Rattle.pv_token.specs.Said.{Said, Keyword, Name, Number, Character, Text, Punctuator, Spelt}
 use Rattle.pv_lex.specs.Pieces.{What, White, Comment, Marker, Spelling, Piece, Bad}
 use Rattle.pv_lex.specs.Stands.{stands}
-use Rattle.pv_lex.specs.Rows.{Place, start, behind_piece, Row, spelt, spelt_here}
+use Rattle.pv_lex.specs.Rows.{Place, start, behind_piece, Row, tokens_among, spelt_here}
 use Rattle.pv_token.specs.Table.{Table, Tells, spelt_of, names_with, names_from, text_of}
 use Rattle.pv_token.specs.TableParts.{with_name, texts_of}
 use Rattle.pv_token.specs.Kept.{HasRoom}
@@ -24,13 +24,13 @@ one_here start line (Marker n) = omega arith
 one_here start line (Spelling s) = omega arith
 
 -- the tokens of a row and what is left behind it are no more than the bytes
-row_count : (whole : ℕ) (p q : Place) (xs : List Piece) → Row p xs q → length (spelt whole p xs) + length q.text ≤ length p.text
+row_count : (whole : ℕ) (p q : Place) (xs : List Piece) → Row p xs q → length (tokens_among whole p xs) + length q.text ≤ length p.text
 row_count whole p q [] row = omega (arith, ap (λ (z : Place). length z.text) row)
 row_count whole p q (x ∷ xs) row =
     let m = ((moves_stands p.fresh p.text).here x row.0).shorter in
     let one = one_here (whole - length p.text) p.line x.what in
     let rest = row_count whole (behind_piece x p) q xs row.1 in
-    let both = length-append (spelt_here (whole - length p.text) p.line x.what) (spelt whole (behind_piece x p) xs) in
+    let both = length-append (spelt_here (whole - length p.text) p.line x.what) (tokens_among whole (behind_piece x p) xs) in
     omega (arith, m, one, rest, both)
 
 -- a row leads no further back
@@ -78,7 +78,7 @@ cut_count source t p cut = omega (arith, tokens_count t _ cut.tells, row_count (
 -- a cut of a source of this bound has room for one more
 pub cut_room : (source : List ℕ) (t : Table) (p : Place) → Cut source t p → length source ≤ 2 ^ 20 → HasRoom t
 cut_room source t p cut h =
-    let ss : List Spelt = spelt (length source) (start source) cut.pieces in
+    let ss : List Spelt = tokens_among (length source) (start source) cut.pieces in
     let n = row_count (length source) (start source) p cut.pieces cut.row in
     record {
       tokens = omega (arith, h, n, tokens_count t ss cut.tells);

@@ -18,10 +18,10 @@ use Rattle.pv_token.specs.Said.{Said, Text}
 use Rattle.pv_lex.specs.Pieces.{Comment, Piece, Stand, Bad, Here, ◌>>=◌, or_bad, token}
 use Rattle.pv_lex.specs.Words.{words, is_wide, is_quote, keyword_or_name, word_at}
 use Rattle.pv_lex.specs.Constants.{constant_of, number_at, value_from}
-use Rattle.pv_lex.specs.Characters.{escapes, numbered, escape_at, character_at, character_constant, characters, string_literal}
+use Rattle.pv_lex.specs.Characters.{escapes, character_by_number, escape_at, character_at, character_constant, characters, string_literal}
 use Rattle.pv_lex.specs.CharacterParts.{closed_character}
 use Rattle.pv_lex.specs.Comments.{behind_close, block_comment}
-use Rattle.pv_lex.specs.Markers.{some_of, behind_name, quoted, behind_line_feed, groups, marker}
+use Rattle.pv_lex.specs.Markers.{some_of, behind_name, behind_quotes, behind_line_feed, groups, marker}
 use Rattle.pv_lex.specs.MarkerParts.{marker_piece, group_at, mark_row}
 use Rattle.pv_lex.specs.Marks.{marks, mark_at}
 use Rattle.pv_lex.specs.Stands.{stands}
@@ -117,8 +117,8 @@ moves_number text h = either_if (begins (λ b. nat_eq b 46) (behind class.Word t
 
 -- Characters and strings.
 
-numbered_leaves : (base n : ℕ) (digits after : List ℕ) → length after ≤ n → Leaves n (numbered base digits after)
-unfolding numbered
+numbered_leaves : (base n : ℕ) (digits after : List ℕ) → length after ≤ n → Leaves n (character_by_number base digits after)
+unfolding character_by_number
 numbered_leaves base n [] after h = leaves_none n
 numbered_leaves base n (d ∷ ds) after h = either_leaves (nat_lt (value_from base 0 (d ∷ ds)) 256) (λ e. leaves_some n _ h) (λ e. leaves_none n)
 
@@ -240,7 +240,7 @@ name_most false [] after e = absurd cc
 name_most true (b ∷ bs) after e = one_of (nat_eq b 10) None (behind_name false bs) after _ (λ h. absurd cc) (λ h. let k = name_most false bs after h in omega arith) e
 name_most false (b ∷ bs) after e = one_of (nat_eq b 34) (Some bs) (cond (nat_eq b 10) None (behind_name (nat_eq b 92) bs)) after _ (λ h. let k : bs ≡ after = cc in omega (arith, ap length k)) (λ h. one_of (nat_eq b 10) None (behind_name (nat_eq b 92) bs) after _ (λ j. absurd cc) (λ j. let k = name_most (nat_eq b 92) bs after j in omega arith) h) e
 
-quoted_most : (text after : List ℕ) → quoted text ≡ Some after → length after ≤ length text
+quoted_most : (text after : List ℕ) → behind_quotes text ≡ Some after → length after ≤ length text
 quoted_most [] after e = absurd cc
 quoted_most (b ∷ bs) after e = one_of (nat_eq b 34) (behind_name false bs) None after _ (λ h. let k = name_most false bs after h in omega arith) (λ h. absurd cc) e
 
@@ -281,7 +281,7 @@ moves_marker text =
     then_leaves m (suc m) (some_of class.Blank text) _ (some_leaves class.Blank text m (omega arith)) (λ a ha.
     then_leaves m (suc m) (some_of class.Digit a.1) _ (some_leaves class.Digit a.1 m ha) (λ n hn.
     then_leaves m (suc m) (some_of class.Blank n.1) _ (some_leaves class.Blank n.1 m hn) (λ b hb.
-    then_list m (suc m) (quoted b.1) _ (λ x e. let k = quoted_most b.1 x e in omega arith) (λ name hname.
+    then_list m (suc m) (behind_quotes b.1) _ (λ x e. let k = quoted_most b.1 x e in omega arith) (λ name hname.
     then_list m (suc m) (groups (length name) name) _ (λ x e. let k = groups_most (length name) name x e in omega arith) (λ after hafter.
     piece_moves m n.0 after hafter)))))
 

@@ -15,7 +15,7 @@ use Rattle.pv_lex.specs.Pieces.{Comment, Marker, What, Piece, Here, token}
 use Rattle.pv_lex.specs.Constants.{value_from}
 use Rattle.pv_lex.specs.Characters.{character_at, characters, string_literal}
 use Rattle.pv_lex.specs.Comments.{behind_close, block_comment}
-use Rattle.pv_lex.specs.Markers.{some_of, behind_name, quoted, behind_line_feed, groups, marker}
+use Rattle.pv_lex.specs.Markers.{some_of, behind_name, behind_quotes, behind_line_feed, groups, marker}
 use Rattle.pv_lex.specs.MarkerParts.{marker_piece, group_at, mark_row}
 use Rattle.pv_lex.specs.Marks.{marks, mark_at}
 use Rattle.pv_lex.proofs.Runs.{run_within}
@@ -173,10 +173,10 @@ takes_name false (b ∷ bs) after e = name_by b bs after (takes_name (nat_eq b 9
         (λ h k. split (Takes (Leads (behind_name false)) (b ∷ bs) after) (nat_eq b 10) None (behind_name (nat_eq b 92) bs) (Some after) (λ h1 k. absurd cc) (λ h1 k.
         takes_byte (Leads (behind_name (nat_eq b 92))) (Leads (behind_name false)) b bs after (more k) (λ t s r f j. pass (nat_eq b 34) _ _ _ h (pass (nat_eq b 10) None _ _ h1 j))) k) e
 
-takes_quoted : (text after : List ℕ) → quoted text ≡ Some after → Takes (Leads quoted) text after
+takes_quoted : (text after : List ℕ) → behind_quotes text ≡ Some after → Takes (Leads behind_quotes) text after
 takes_quoted [] after e = absurd cc
-takes_quoted (b ∷ bs) after e = split (Takes (Leads quoted) (b ∷ bs) after) (nat_eq b 34) (behind_name false bs) None (Some after) (λ h k.
-    takes_byte (Leads (behind_name false)) (Leads quoted) b bs after (takes_name false bs after k) (λ t s r f j. pick (nat_eq b 34) (behind_name false t) None _ h j)) (λ h k. absurd cc) e
+takes_quoted (b ∷ bs) after e = split (Takes (Leads behind_quotes) (b ∷ bs) after) (nat_eq b 34) (behind_name false bs) None (Some after) (λ h k.
+    takes_byte (Leads (behind_name false)) (Leads behind_quotes) b bs after (takes_name false bs after k) (λ t s r f j. pick (nat_eq b 34) (behind_name false t) None _ h j)) (λ h k. absurd cc) e
 
 end_alone : (s r : List ℕ) → [] ≡ s ++ r → behind_line_feed s ≡ Some s
 end_alone [] r e = refl
@@ -291,7 +291,7 @@ abbrev flags_then : List ℕ → List ℕ → Option Piece
 flags_then digits name = option_and_then (marker_piece digits) (groups (length name) name)
 
 abbrev name_then : List ℕ → List ℕ → Option Piece
-name_then digits text = option_and_then (flags_then digits) (quoted text)
+name_then digits text = option_and_then (flags_then digits) (behind_quotes text)
 
 abbrev blank_then : List ℕ → List ℕ → Option Piece
 blank_then digits text = option_and_then (λ b. name_then digits b.1) (some_of class.Blank text)
@@ -313,8 +313,8 @@ takes_flags digits name x e = bound (Takes (Reads (flags_then digits) x.what) na
     ap (option_and_then (marker_piece digits)) (groups_enough (length t) (length name) t (omega arith) shorter ∙ j) ∙ p.1 s))) e
 
 takes_name_then : (digits text : List ℕ) (x : Piece) → name_then digits text ≡ Some x → Takes (Reads (name_then digits) x.what) text x.after
-takes_name_then digits text x e = bound (Takes (Reads (name_then digits) x.what) text x.after) (quoted text) (flags_then digits) x (λ name found rest.
-    takes_then (Leads quoted) (Reads (flags_then digits) x.what) (Reads (name_then digits) x.what) text name x.after (takes_quoted text name found) (takes_flags digits name x rest) (λ t m s a b. ap (option_and_then (flags_then digits)) a ∙ b)) e
+takes_name_then digits text x e = bound (Takes (Reads (name_then digits) x.what) text x.after) (behind_quotes text) (flags_then digits) x (λ name found rest.
+    takes_then (Leads behind_quotes) (Reads (flags_then digits) x.what) (Reads (name_then digits) x.what) text name x.after (takes_quoted text name found) (takes_flags digits name x rest) (λ t m s a b. ap (option_and_then (flags_then digits)) a ∙ b)) e
 
 takes_blank_then : (digits text : List ℕ) (x : Piece) → blank_then digits text ≡ Some x → Takes (Reads (blank_then digits) x.what) text x.after
 takes_blank_then digits text x e = takes_bind (some_of class.Blank) (λ v t. name_then digits t) (takes_some class.Blank) (λ v t y f. takes_name_then digits t y f) text x e

@@ -13,7 +13,7 @@ use Rattle.pv_token.specs.Said.{Said, Character, as_char}
 use Rattle.pv_lex.specs.Pieces.{What, Spelling, Piece, Stand, Bad, Here, token}
 use Rattle.pv_lex.specs.Words.{words, is_wide, is_quote, keyword_or_name, word_at}
 use Rattle.pv_lex.specs.Constants.{constant_of, number_at, value_from}
-use Rattle.pv_lex.specs.Characters.{escapes, numbered, escape_at, character_at, character_constant, characters}
+use Rattle.pv_lex.specs.Characters.{escapes, character_by_number, escape_at, character_at, character_constant, characters}
 use Rattle.pv_lex.specs.CharacterParts.{closed_character}
 use Rattle.pv_lex.proofs.Runs.{run_within}
 use Rattle.pv_lex.proofs.Taking.{Takes, takes_then, takes_as, takes_byte, takes_none, split, pick, pass, and_cut, begins_cut, bound, mapped, IsRun, takes_run, run_cut, run_part}
@@ -87,10 +87,10 @@ pair_is {A} v after x e = (ap (λ (z : A × List ℕ). z.0) e, ap (λ (z : A × 
 -- a numbered character depends on its digits, and passes on what is left
 record IsNumbered (base : ℕ) (digits after : List ℕ) (x : ℕ × List ℕ) : Type 0 where
   left : after ≡ x.1
-  any : (s : List ℕ) → numbered base digits s ≡ Some (x.0, s)
+  any : (s : List ℕ) → character_by_number base digits s ≡ Some (x.0, s)
 
-numbered_is : (base : ℕ) (digits after : List ℕ) (x : ℕ × List ℕ) → numbered base digits after ≡ Some x → IsNumbered base digits after x
-unfolding numbered
+numbered_is : (base : ℕ) (digits after : List ℕ) (x : ℕ × List ℕ) → character_by_number base digits after ≡ Some x → IsNumbered base digits after x
+unfolding character_by_number
 numbered_is base [] after x e = absurd cc
 numbered_is base (d ∷ ds) after x e =
     let v : ℕ = value_from base 0 (d ∷ ds) in
@@ -100,12 +100,12 @@ numbered_is base (d ∷ ds) after x e =
     record { left = p.1; any = λ s. pick (nat_lt v 256) (Some (v, s)) None (Some (x.0, s)) h (ap (λ (z : ℕ). Some (z, s)) p.0) }) (λ h k. absurd cc) e
 
 octal_at : List ℕ → Option (ℕ × List ℕ)
-octal_at text = numbered 8 (take (min 3 (run class.Octal text)) text) (drop (min 3 (run class.Octal text)) text)
+octal_at text = character_by_number 8 (take (min 3 (run class.Octal text)) text) (drop (min 3 (run class.Octal text)) text)
 
 escape_octal : (text : List ℕ) → begins (is_in class.Octal) text ≡ true → escape_at text ≡ octal_at text
 unfolding escape_at octal_at
 escape_octal [] h = absurd cc
-escape_octal (b ∷ bs) h = pick (is_in class.Octal b) (numbered 8 (take (min 3 (run class.Octal (b ∷ bs))) (b ∷ bs)) (drop (min 3 (run class.Octal (b ∷ bs))) (b ∷ bs))) _ _ h refl
+escape_octal (b ∷ bs) h = pick (is_in class.Octal b) (character_by_number 8 (take (min 3 (run class.Octal (b ∷ bs))) (b ∷ bs)) (drop (min 3 (run class.Octal (b ∷ bs))) (b ∷ bs))) _ _ h refl
 
 begins_take : (p : ℕ → Bool) (n : ℕ) (text s : List ℕ) → 1 ≤ n → begins p text ≡ true → begins p (take n text ++ s) ≡ true
 begins_take p zero text s le h = absurd (omega arith)
@@ -153,8 +153,8 @@ takes_octal text x h e =
           let digits : take n (take n text ++ s) ≡ take n text = ap (λ i. take i (take n text ++ s)) (sym size) ∙ take-append_seam (take n text) s in
           let rest : drop n (take n text ++ s) ≡ s = ap (λ i. drop i (take n text ++ s)) (sym size) ∙ drop-append_seam (take n text) s in
           escape_octal (take n text ++ s) (begins_take (is_in class.Octal) n text s (omega (arith, some)) h)
-          ∙ ap (λ i. numbered 8 (take i (take n text ++ s)) (drop i (take n text ++ s))) m
-          ∙ ap (λ d. numbered 8 d (drop n (take n text ++ s))) digits ∙ ap (numbered 8 (take n text)) rest ∙ i.any s;
+          ∙ ap (λ i. character_by_number 8 (take i (take n text ++ s)) (drop i (take n text ++ s))) m
+          ∙ ap (λ d. character_by_number 8 d (drop n (take n text ++ s))) digits ∙ ap (character_by_number 8 (take n text)) rest ∙ i.any s;
     })
 
 takes_escape : (text : List ℕ) (x : ℕ × List ℕ) → escape_at text ≡ Some x → Takes (Gives escape_at x.0) text x.1
@@ -162,10 +162,10 @@ unfolding escape_at octal_at
 takes_escape [] x e = absurd cc
 takes_escape (b ∷ bs) x e =
     split (Takes (Gives escape_at x.0) (b ∷ bs) x.1) (is_in class.Octal b) (octal_at (b ∷ bs)) _ (Some x) (takes_octal (b ∷ bs) x) (λ h0 k.
-    split (Takes (Gives escape_at x.0) (b ∷ bs) x.1) (nat_eq b 120) (numbered 16 (front class.Hex bs) (behind class.Hex bs)) _ (Some x) (λ h1 k.
+    split (Takes (Gives escape_at x.0) (b ∷ bs) x.1) (nat_eq b 120) (character_by_number 16 (front class.Hex bs) (behind class.Hex bs)) _ (Some x) (λ h1 k.
     let i = numbered_is 16 (front class.Hex bs) (behind class.Hex bs) x k in
     subst (Takes (Gives escape_at x.0) (b ∷ bs)) i.left (takes_byte (IsRun class.Hex (front class.Hex bs)) (Gives escape_at x.0) b bs (behind class.Hex bs) (takes_run class.Hex bs) (λ t s r f j.
-    pass (is_in class.Octal b) _ _ _ h0 (pick (nat_eq b 120) (numbered 16 (front class.Hex t) (behind class.Hex t)) _ _ h1 (ap (λ d. numbered 16 d (behind class.Hex t)) j.front ∙ ap (numbered 16 (front class.Hex bs)) j.behind ∙ i.any s)))))
+    pass (is_in class.Octal b) _ _ _ h0 (pick (nat_eq b 120) (character_by_number 16 (front class.Hex t) (behind class.Hex t)) _ _ h1 (ap (λ d. character_by_number 16 d (behind class.Hex t)) j.front ∙ ap (character_by_number 16 (front class.Hex bs)) j.behind ∙ i.any s)))))
     (λ h1 k. mapped (Takes (Gives escape_at x.0) (b ∷ bs) x.1) (row_of escapes (b ∷ [])) (λ n. (n, bs)) x (λ n found same.
     let p = pair_is n bs x same in
     subst (Takes (Gives escape_at x.0) (b ∷ bs)) p.1 (takes_byte (λ t s. t ≡ s) (Gives escape_at x.0) b bs bs (takes_none (λ t s. t ≡ s) bs (λ s r f. refl)) (λ t s r f j.

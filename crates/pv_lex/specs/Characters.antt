@@ -15,16 +15,16 @@ escapes =
     (codes "r", 13) ∷ (codes "t", 9) ∷ (codes "v", 11) ∷ []
 
 -- A character by its number (6.4.4.4p5 and p6): at least one digit, and at most 255, the greatest `unsigned char` (6.4.4.4p9).
-unfoldable pub numbered : (base : ℕ) → (digits after : List ℕ) → Option (ℕ × List ℕ)
-numbered base [] after = None
-numbered base (d ∷ ds) after = if nat_lt (value_from base 0 (d ∷ ds)) 256 then Some (value_from base 0 (d ∷ ds), after) else None
+unfoldable pub character_by_number : (base : ℕ) → (digits after : List ℕ) → Option (ℕ × List ℕ)
+character_by_number base [] after = None
+character_by_number base (d ∷ ds) after = if nat_lt (value_from base 0 (d ∷ ds)) 256 then Some (value_from base 0 (d ∷ ds), after) else None
 
 -- Behind the backslash stand one to three octal digits, `x` and as many hexadecimal digits as there are, or a simple escape (6.4.4.4p1 and p7).
 unfoldable pub escape_at : List ℕ → Option (ℕ × List ℕ)
 escape_at [] = None
 escape_at (b ∷ bs) =
-    if is_in class.Octal b then numbered 8 (take (min 3 (run class.Octal (b ∷ bs))) (b ∷ bs)) (drop (min 3 (run class.Octal (b ∷ bs))) (b ∷ bs))
-    else (if nat_eq b 120 then numbered 16 (front class.Hex bs) (behind class.Hex bs)
+    if is_in class.Octal b then character_by_number 8 (take (min 3 (run class.Octal (b ∷ bs))) (b ∷ bs)) (drop (min 3 (run class.Octal (b ∷ bs))) (b ∷ bs))
+    else (if nat_eq b 120 then character_by_number 16 (front class.Hex bs) (behind class.Hex bs)
     else option_map (λ n. (n, bs)) (row_of escapes (b ∷ [])))
 
 -- One character between quotes q: its byte, and what is left (6.4.4.4p1, 6.4.5p1). A line feed ends no literal and stands in none.

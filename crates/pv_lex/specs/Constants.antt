@@ -34,15 +34,15 @@ value_from base n [] = n
 value_from base n (d ∷ ds) = value_from base (n * base + digit_value d) ds
 
 -- A constant of this value, if some type of its list holds it (6.4.4p2, 6.4.4.1p5): a decimal constant without `u` is signed.
-abbrev pub sized : (base value : ℕ) → Suffix → Option Said
-sized base value s =
+abbrev pub constant_of_value : (base value : ℕ) → Suffix → Option Said
+constant_of_value base value s =
     if nat_lt value (2 ^ 64) && ((not (nat_eq base 10) || s.unsigned) || nat_lt value (2 ^ 63))
     then Some (Number value (nat_eq base 10) s.unsigned s.longs) else None
 
 -- At least one digit, and then a suffix (6.4.4.1p1).
 unfoldable pub number_of : (base : ℕ) → (digits suffix : List ℕ) → Option Said
 number_of base [] suffix = None
-number_of base (d ∷ ds) suffix = row_of suffixes suffix >>= sized base (value_from base 0 (d ∷ ds))
+number_of base (d ∷ ds) suffix = row_of suffixes suffix >>= constant_of_value base (value_from base 0 (d ∷ ds))
 
 -- The constant that the whole text spells (6.4.4.1p1): `0x` or `0X` begins a hexadecimal one, any other `0` an octal one.
 unfoldable pub constant_of : List ℕ → Option Said

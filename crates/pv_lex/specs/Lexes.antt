@@ -3,7 +3,7 @@ use Rattle.std.specs.Prelude.{◌≡◌, ℕ, List, length}
 use Rattle.pv_token.specs.Table.{Table, Tells}
 use Rattle.pv_lex.specs.Pieces.{Piece, End}
 use Rattle.pv_lex.specs.Stands.{stands}
-use Rattle.pv_lex.specs.Rows.{Place, start, Row, spelt}
+use Rattle.pv_lex.specs.Rows.{Place, start, Row, tokens_among}
 
 -- Pieces in a row make up the whole source (6.4p4), and the table has its tokens.
 pub record Lexes (source : List ℕ) (t : Table) : Type 0 where
@@ -11,4 +11,4 @@ pub record Lexes (source : List ℕ) (t : Table) : Type 0 where
   pub last : Place
   pub row : Row (start source) pieces last
   pub whole : stands last.fresh last.text ≡ End
-  pub tells : Tells t (spelt (length source) (start source) pieces)
+  pub tells : Tells t (tokens_among (length source) (start source) pieces)

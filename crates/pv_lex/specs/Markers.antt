@@ -18,9 +18,9 @@ behind_name true (b ∷ bs) = if nat_eq b line_feed then None else behind_name f
 behind_name false (b ∷ bs) = if nat_eq b double_quote then Some bs else (if nat_eq b line_feed then None else behind_name (nat_eq b backslash) bs)
 
 -- A file's name in its quotes (6.10.4p4).
-abbrev pub quoted : List ℕ → Option (List ℕ)
-quoted [] = None
-quoted (b ∷ bs) = if nat_eq b double_quote then behind_name false bs else None
+abbrev pub behind_quotes : List ℕ → Option (List ℕ)
+behind_quotes [] = None
+behind_quotes (b ∷ bs) = if nat_eq b double_quote then behind_name false bs else None
 
 -- What is left behind the end of the line (6.10p2): a line feed, or the end of the source.
 abbrev pub behind_line_feed : List ℕ → Option (List ℕ)
@@ -40,7 +40,7 @@ marker text = do
   a ← some_of class.Blank text
   n ← some_of class.Digit a.1
   b ← some_of class.Blank n.1
-  name ← quoted b.1
+  name ← behind_quotes b.1
   after ← groups (length name) name
   if nat_le (length n.0) 10 && nat_le (value_from 10 0 n.0) 2147483647 then Some (record { what = Marker (value_from 10 0 n.0); after = after })
       else None

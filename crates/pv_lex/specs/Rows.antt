@@ -53,6 +53,6 @@ spelt_here start line (Spelling s) = record { said = s; start = start; line = li
 spelt_here start line _ = []
 
 -- The tokens among pieces in a row, in a source of this length (6.4p1).
-abbrev pub spelt : (whole : ℕ) → Place → List Piece → List Spelt
-spelt whole p [] = []
-spelt whole p (x ∷ xs) = spelt_here (whole - length p.text) p.line x.what ++ spelt whole (behind_piece x p) xs
+abbrev pub tokens_among : (whole : ℕ) → Place → List Piece → List Spelt
+tokens_among whole p [] = []
+tokens_among whole p (x ∷ xs) = spelt_here (whole - length p.text) p.line x.what ++ tokens_among whole (behind_piece x p) xs

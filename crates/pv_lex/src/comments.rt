@@ -5,7 +5,7 @@ ghost use Rattle.pv_lex.specs.Bytes.{begins, line_feeds};
 ghost use Rattle.pv_lex.specs.Pieces.{Marker, or_bad};
 ghost use Rattle.pv_lex.specs.Views.{stand_of};
 ghost use Rattle.pv_lex.specs.Comments.{block_comment};
-ghost use Rattle.pv_lex.specs.Markers.{some_of, behind_name, quoted, behind_line_feed, groups, marker};
+ghost use Rattle.pv_lex.specs.Markers.{some_of, behind_name, behind_quotes, behind_line_feed, groups, marker};
 ghost use Rattle.pv_lex.specs.MarkerParts.{marker_piece, group_at};
 
 use crate::bytes::{Class, behind, is_in, run};
@@ -84,7 +84,7 @@ fn takes_next(taken: bool, b: u8) -> bool
 
 /// A name in quotes, and what is left behind it.
 fn quoted(text: &[u8]) -> Option<&[u8]>
-    ensures { option_map (λ r. r.now) result ≡ quoted text.now }
+    ensures { option_map (λ r. r.now) result ≡ behind_quotes text.now }
 {
     if text.is_empty() || text[0] != b'"' {
         return None;

@@ -5,7 +5,7 @@ ghost use Rattle.pv_lex.specs.Bytes.{begins};
 ghost use Rattle.pv_lex.specs.Tables.{row_of};
 ghost use Rattle.pv_lex.specs.Pieces.{or_bad};
 ghost use Rattle.pv_lex.specs.Views.{stand_of};
-ghost use Rattle.pv_lex.specs.Characters.{escapes, numbered, escape_at, character_at, character_constant, characters, string_literal};
+ghost use Rattle.pv_lex.specs.Characters.{escapes, character_by_number, escape_at, character_at, character_constant, characters, string_literal};
 
 use crate::bytes::{Class, behind, is_in, run};
 use crate::escapes::ESCAPES;
@@ -16,11 +16,11 @@ use pv_token::{Kind, NoMemory};
 use std::alloc::Global;
 
 /// A character by its number, which is at most 255 (C17 6.4.4.4p9).
-#[tactic(auto, unfolding(crate::specs::Characters::numbered))]
+#[tactic(auto, unfolding(crate::specs::Characters::character_by_number))]
 fn numbered<'a>(base: u64, digits: &[u8], after: &'a [u8]) -> Option<(u8, &'a [u8])>
     requires base_low { 1 ≤ base }
     requires base_high { base ≤ 16 }
-    ensures value { option_map (λ r. (r.0, r.1.now)) result ≡ numbered base digits.now after.now }
+    ensures value { option_map (λ r. (r.0, r.1.now)) result ≡ character_by_number base digits.now after.now }
     ensures rest { IfSome result (λ r. r.1.now ≡ after.now) }
 {
     if digits.is_empty() {

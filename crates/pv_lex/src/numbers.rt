@@ -5,7 +5,7 @@ ghost use Rattle.pv_lex.specs.Bytes.{begins};
 ghost use Rattle.pv_lex.specs.Tables.{row_of};
 ghost use Rattle.pv_lex.specs.Pieces.{or_bad};
 ghost use Rattle.pv_lex.specs.Views.{stand_of};
-ghost use Rattle.pv_lex.specs.Constants.{suffixes, digit_value, value_from, number_of, constant_of, number_at, sized};
+ghost use Rattle.pv_lex.specs.Constants.{suffixes, digit_value, value_from, number_of, constant_of, number_at, constant_of_value};
 ghost use Rattle.pv_token.specs.Views.{said_of};
 
 use crate::bytes::{Class, run};
@@ -53,7 +53,7 @@ fn suffix_of(text: &[u8]) -> Option<Suffix>
 
 /// A constant of this value, if a type of its list holds it (C17 6.4.4p2).
 fn sized(base: u64, value: u64, suffix: Suffix) -> Option<Kind<'static>>
-    ensures { option_map said_of result ≡ sized base value suffix }
+    ensures { option_map said_of result ≡ constant_of_value base value suffix }
 {
     if base == 10 && !suffix.unsigned && value >= 1 << 63 {
         return None;

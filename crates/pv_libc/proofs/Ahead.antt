@@ -14,7 +14,7 @@ use Rattle.pv_num.specs.Kinds.{Fits, convert_of}
 use Rattle.pv_fault.specs.declared.faults.Reason.TheVariants as reason
 use Rattle.pv_prov.specs.declared.names.Prov.{Prov}
 use Rattle.pv_prov.specs.declared.names.Prov.TheVariants.{Inst}
-use Rattle.pv_prov.specs.Names.{alone}
+use Rattle.pv_prov.specs.Names.{one_candidate}
 use Rattle.pv_inst.specs.declared.values.Info.{Info}
 use Rattle.pv_inst.specs.declared.values.Instance.{Instance}
 use Rattle.pv_inst.specs.declared.values.Tried.{Tried}
@@ -23,12 +23,12 @@ use Rattle.pv_inst.specs.declared.values.Miss.TheVariants.{Ended}
 use Rattle.pv_inst.specs.declared.values.Test.TheVariants.{Live, Range}
 use Rattle.pv_inst.specs.Table.{Table, instance_at}
 use Rattle.pv_inst.specs.Infos.{info_of}
-use Rattle.pv_inst.specs.Use.{passes, any_survives, miss_of, use_answer, untried, holds}
+use Rattle.pv_inst.specs.Use.{passes, any_survives, miss_of, use_answer, empty_use, holds}
 use Rattle.pv_inst.specs.SameParts.{made_passes}
 use Rattle.pv_inst.specs.Exposure.{expose}
 use Rattle.pv_inst.specs.WellFormed.{IsWellFormed}
 use Rattle.pv_shadow.specs.declared.byte.Byte.{Byte}
-use Rattle.pv_shadow.specs.Bytes.{Store, blank, byte_at, read}
+use Rattle.pv_shadow.specs.Bytes.{Store, blank_byte, byte_at, bytes_from}
 use Rattle.pv_shadow.specs.Packed.{digit_at, IsNameless}
 use Rattle.pv_shadow.specs.Readings.{HasDigits}
 use Rattle.pv_shadow.specs.Whole.{number_of, number_in}
@@ -44,7 +44,7 @@ use Rattle.pv_object.specs.Loading.{integer_of}
 use Rattle.pv_libc.specs.declared.values.Note.{Note}
 use Rattle.pv_libc.specs.declared.values.Note.TheVariants.{Exposed}
 use Rattle.pv_libc.specs.declared.values.Given.{Given}
-use Rattle.pv_libc.specs.Steps.{Did, done, next, with_notes, noted, in_table, about, told, used, reached, reached_by, further}
+use Rattle.pv_libc.specs.Steps.{Did, answer_now, next, with_notes, with_more_notes, in_table, about, with_exposures, use_notes, reach_for, reached_by, bytes_further}
 use Rattle.pv_libc.specs.Characters.{character_loaded, character_in, most}
 use Rattle.pv_libc.specs.Strings.{compared_from}
 use Rattle.pv_libc.specs.StringParts.{compared_by}
@@ -114,7 +114,7 @@ module _ (M : Mem) (i a : ℕ) (y : Info) (there : info_of (instance_at M.table.
 
   found : use_answer T (Inst i) (Range a 1) ≡ Ok one_tried
   found =
-      ap (λ c. if c || false then Ok (record { pair = None; low = c; high = false }) else Err (if any_survives true T.instances (alone i) Live then miss_of (Range a 1) else Ended))
+      ap (λ c. if c || false then Ok (record { pair = None; low = c; high = false }) else Err (if any_survives true T.instances (one_candidate i) Live then miss_of (Range a 1) else Ended))
       (survives_by (instance_at T.instances i) there)
 
   abbrev p : Pointer
@@ -137,26 +137,26 @@ module _ (M : Mem) (i a : ℕ) (y : Info) (there : info_of (instance_at M.table.
         ∙ ap (λ o. (checked_in i (clause_of by) p 1 1 false one_tried o, T)) there
         ∙ ap (λ c. (if c then or_stop None at else Err (fault (clause_of by) reason.Misaligned), T)) aligned
 
-    pub reached_is : (note : Note) (notes : List Note) → reached by false (record { pointer = p; stopped = note }) 1 (with_notes M notes) ≡ done at (with_notes M notes)
+    pub reached_is : (note : Note) (notes : List Note) → reach_for by false (record { pointer = p; stopped = note }) 1 (with_notes M notes) ≡ answer_now at (with_notes M notes)
     reached_is note notes =
         let g : Given = record { pointer = p; stopped = note } in
         ap (λ got. about note (reached_by by false g 1 (with_notes M notes) got)) reach_is
-        ∙ ap (λ (r : Result Tried Miss). done at (noted (used r 2) (in_table (with_notes M notes) T))) found
-        ∙ ap (λ (ns : List Note). done at (with_notes M ns)) (append-nil notes)
+        ∙ ap (λ (r : Result Tried Miss). answer_now at (with_more_notes (use_notes r 2) (in_table (with_notes M notes) T))) found
+        ∙ ap (λ (ns : List Note). answer_now at (with_notes M ns)) (append-nil notes)
 
 -- the pointer further on, where there is such an address
-further_is : (g : Given) (i number : ℕ) → g.pointer.prov ≡ Inst number → g.pointer.address + i ≤ 2 ^ 64 - 1 → further g i ≡ record { pointer = record { address = g.pointer.address + i; prov = Inst number }; stopped = g.stopped }
+further_is : (g : Given) (i number : ℕ) → g.pointer.prov ≡ Inst number → g.pointer.address + i ≤ 2 ^ 64 - 1 → bytes_further g i ≡ record { pointer = record { address = g.pointer.address + i; prov = Inst number }; stopped = g.stopped }
 further_is g i number e h =
     let m : min (g.pointer.address + i) (2 ^ 64 - 1) ≡ g.pointer.address + i = min-eq_left h in
     λ j. record { pointer = record { address = m j; prov = e j }; stopped = g.stopped }
 
 -- a byte that has a value and no name
-pub nameless_there : (v : ℕ) (o : Option Byte) → IsSomeAnd o (IsNameless v) → IsNameless v (unwrap_or o blank)
+pub nameless_there : (v : ℕ) (o : Option Byte) → IsSomeAnd o (IsNameless v) → IsNameless v (unwrap_or o blank_byte)
 nameless_there v None h = absurd h
 nameless_there v (Some b) h = h
 
-one_read : (m : Store) (a : ℕ) → read m a 1 ≡ byte_at m a ∷ []
-unfolding read
+one_read : (m : Store) (a : ℕ) → bytes_from m a 1 ≡ byte_at m a ∷ []
+unfolding bytes_from
 one_read m a = refl
 
 one_number : (b : Byte) (v : ℕ) → b.value ≡ Some v → number_in (b ∷ []) ≡ Some v
@@ -170,13 +170,13 @@ kept z h = grind (arith, ints, nat_tests)
 character_kept : (v : ℕ) → v < 256 → convert_of UChar (pos v) ≡ pos v
 character_kept v h = kept (pos v) (grind (arith, ints), grind (arith, ints))
 
-nothing_told : (M : Mem) (notes : List Note) → M.table.pending ≡ [] → told (with_notes M notes) ≡ with_notes M notes
+nothing_told : (M : Mem) (notes : List Note) → M.table.pending ≡ [] → with_exposures (with_notes M notes) ≡ with_notes M notes
 nothing_told M notes all =
     ap (λ (q : List ℕ). with_notes (with_table M (record M.table { pending = q })) (notes ++ map Exposed M.table.pending)) (sym all)
     ∙ ap (λ (q : List ℕ). with_notes M (notes ++ map Exposed q)) all
     ∙ ap (with_notes M) (append-nil notes)
 
-pub character_plain : (M : Mem) (g : Given) (a v : ℕ) → M.table.pending ≡ [] → v < 256 → IsSomeAnd (get M.bytes a) (IsNameless v) → (notes : List Note) → character_in g a (with_notes M notes) ≡ done v (with_notes M notes)
+pub character_plain : (M : Mem) (g : Given) (a v : ℕ) → M.table.pending ≡ [] → v < 256 → IsSomeAnd (get M.bytes a) (IsNameless v) → (notes : List Note) → character_in g a (with_notes M notes) ≡ answer_now v (with_notes M notes)
 character_plain M g a v all few h notes =
     let T = M.table in
     let S = with_notes M notes in
@@ -184,16 +184,16 @@ character_plain M g a v all few h notes =
     let n = nameless_there v (get M.bytes a) h in
     ap (λ (bs : List Byte). about g.stopped (character_loaded S (integer_of T UChar bs (number_in bs)))) (one_read M.bytes a)
     ∙ ap (λ (o : Option ℕ). about g.stopped (character_loaded S (integer_of T UChar (b ∷ []) o))) (one_number b v n.0)
-    ∙ ap (λ (q : Prov). about g.stopped (character_loaded S (Ok (value.Int (convert_of UChar (pos v)), untried), expose T q))) n.1
-    ∙ ap (λ (z : ℤ). done (unsigned_abs z) (told S)) (character_kept v few)
-    ∙ ap (done v) (nothing_told M notes all)
+    ∙ ap (λ (q : Prov). about g.stopped (character_loaded S (Ok (value.Int (convert_of UChar (pos v)), empty_use), expose T q))) n.1
+    ∙ ap (λ (z : ℤ). answer_now (unsigned_abs z) (with_exposures S)) (character_kept v few)
+    ∙ ap (answer_now v) (nothing_told M notes all)
 
 -- the character so many bytes further on, in an object
 pub gives_at : (M : Mem) (g : Given) (n i v : ℕ) → M.table.pending ≡ [] → HasRoom M.table g.pointer n → i < n → v < 256 → IsSomeAnd (get M.bytes (g.pointer.address + i)) (IsNameless v) → GivesAt M g i v
 gives_at M g n i v all room here few h = λ by notes.
     let S = with_notes M notes in
     let a = g.pointer.address + i in
-    ap (λ (f : Given). next (reached by false f 1 S) (λ r T. character_in g r.address T)) (further_is g i room.number room.name (omega (arith, room.far, here)))
+    ap (λ (f : Given). next (reach_for by false f 1 S) (λ r T. character_in g r.address T)) (further_is g i room.number room.name (omega (arith, room.far, here)))
     ∙ ap (λ (d : Did Reach). next d (λ r T. character_in g r.address T))
     (reached_is M room.number a room.info room.there (omega (arith, room.from)) (omega (arith, room.upto, here)) room.holding by g.stopped notes)
     ∙ character_plain M g a v all few h notes

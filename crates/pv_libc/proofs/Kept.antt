@@ -10,9 +10,9 @@ use Rattle.pv_inst.specs.declared.values.CreateError.{CreateError}
 use Rattle.pv_inst.specs.Table.{Table, live_bytes, count_of}
 use Rattle.pv_inst.specs.Answers.{IsLive}
 use Rattle.pv_inst.specs.Placing.{Request, place, place_said, place_at, unless_overlap, first_overlap}
-use Rattle.pv_inst.specs.PlacingParts.{rounded}
+use Rattle.pv_inst.specs.PlacingParts.{multiple_of_16}
 use Rattle.pv_object.specs.Memory.{Mem}
-use Rattle.pv_object.specs.Creating.{made, created}
+use Rattle.pv_object.specs.Creating.{with_new_bytes, creation}
 
 live_before : (xs : List Instance) (y : Instance) (k : ℕ) → IsSomeAnd (slice_get xs k) (λ (x : Instance). IsTrue x.live) → IsSomeAnd (slice_get (xs ++ y ∷ []) k) (λ (x : Instance). IsTrue x.live)
 live_before [] y k h = absurd h
@@ -44,16 +44,16 @@ module _ (i : ℕ) where
       (keeps_if (not (eqb (base % r.align) 0)) T _ _ (λ h. h) (keeps_unless (first_overlap T.instances base r.size) T r k base b))
 
   keeps_said : (o : Option Place) (T : Table) (r : Request) (k : ℕ) → Keeps T (place_said o T r k)
-  keeps_said None T r k = keeps_at T r k (rounded T.cursor) true
+  keeps_said None T r k = keeps_at T r k (multiple_of_16 T.cursor) true
   keeps_said (Some (At base)) T r k = keeps_at T r k base false
   keeps_said (Some Null) T r k = λ h. h
 
   keeps_place : (T : Table) (r : Request) → Keeps T (place T r)
   keeps_place T r = keeps_if (nat_lt (2 ^ 24) (live_bytes T.instances + r.size)) T _ _ (λ h. h) (keeps_said (place_of T.script r.text (count_of T r.name + 1)) T r (count_of T r.name + 1))
 
-  keeps_made : (M : Mem) (w : Result ℕ CreateError × Table) → Keeps M.table w → IsLive M.table.instances i → IsLive (made M w).1.table.instances i
+  keeps_made : (M : Mem) (w : Result ℕ CreateError × Table) → Keeps M.table w → IsLive M.table.instances i → IsLive (with_new_bytes M w).1.table.instances i
   keeps_made M ((Ok j), U) f h = f h
   keeps_made M ((Err e), U) f h = f h
 
-pub created_live : (M : Mem) (r : Request) (i : ℕ) → IsLive M.table.instances i → IsLive (created M r).1.table.instances i
+pub created_live : (M : Mem) (r : Request) (i : ℕ) → IsLive M.table.instances i → IsLive (creation M r).1.table.instances i
 created_live M r i h = keeps_made i M (place M.table r) (keeps_place i M.table r) h

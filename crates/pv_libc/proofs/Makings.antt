@@ -17,17 +17,17 @@ use Rattle.pv_inst.specs.declared.values.Test.TheVariants.{Block}
 use Rattle.pv_inst.specs.declared.values.CreateError.{CreateError}
 use Rattle.pv_inst.specs.declared.values.CreateError.TheVariants as error
 use Rattle.pv_inst.specs.Table.{Table, instance_at}
-use Rattle.pv_inst.specs.Use.{use_answer, settled}
+use Rattle.pv_inst.specs.Use.{use_answer, after_use}
 use Rattle.pv_inst.specs.Infos.{info_of}
-use Rattle.pv_inst.specs.Ending.{ended}
+use Rattle.pv_inst.specs.Ending.{after_end}
 use Rattle.pv_inst.specs.Answers.{IsLive}
 use Rattle.pv_inst.specs.Placing.{Request, place}
 use Rattle.pv_object.specs.declared.values.Pointer.{Pointer}
 use Rattle.pv_object.specs.declared.values.Stop.{Stop}
 use Rattle.pv_object.specs.declared.values.Stop.TheVariants.{Ends, NoMemory}
 use Rattle.pv_object.specs.Memory.{Mem}
-use Rattle.pv_object.specs.Access.{chosen, is_null}
-use Rattle.pv_object.specs.Creating.{created, made}
+use Rattle.pv_object.specs.Access.{first_survivor, is_null}
+use Rattle.pv_object.specs.Creating.{creation, with_new_bytes}
 use Rattle.pv_object.proofs.Born.{IsBorn, born, live_born, over_ended, ok_err}
 use Rattle.pv_libc.specs.declared.values.Arg.{Arg}
 use Rattle.pv_libc.specs.declared.values.Note.{Note}
@@ -35,12 +35,12 @@ use Rattle.pv_libc.specs.declared.values.Note.TheVariants.{Made, Ended, Exposed,
 use Rattle.pv_libc.specs.declared.values.Given.{Given}
 use Rattle.pv_libc.specs.declared.values.Reply.{Reply}
 use Rattle.pv_libc.specs.declared.values.Reply.TheVariants as reply
-use Rattle.pv_libc.specs.Steps.{Now, Did, done, next_by, with_notes, about_by}
+use Rattle.pv_libc.specs.Steps.{Now, Did, answer_now, next_by, with_notes, about_by}
 use Rattle.pv_libc.specs.Answers.{OrNoMemory}
-use Rattle.pv_libc.specs.Heap.{told_of, granted, requested, allocated, malloc, cleared, calloc, block_in, the_block, block_answer, block_by, block, freed, free, both, moved, resized, realloc, null}
-use Rattle.pv_libc.specs.HeapParts.{heap_request, zeroed}
+use Rattle.pv_libc.specs.Heap.{told_of, grant_of, request_of_bytes, pointer_or_null, malloc, pointer_to_zeros, calloc, block_in, the_block, block_answer, block_by, block, end_of_block, free, after_block_copy, reply_after_move, resize_of, realloc, null}
+use Rattle.pv_libc.specs.HeapParts.{heap_request, with_zeros}
 use Rattle.pv_libc.specs.Printing.{format_of}
-use Rattle.pv_libc.specs.Calls.{argument_at, pointer, number, size, printed, printf, called_in, called}
+use Rattle.pv_libc.specs.Calls.{argument_at, pointer, number, size, text_of_format, printf, called_in, reply_to_call}
 use Rattle.pv_libc.specs.Makings.{IsLiveIfMade, AreLive, UnlessNoMemory}
 use Rattle.pv_libc.proofs.Reaches.{told_live}
 use Rattle.pv_libc.proofs.Quiet.{IsQuiet, AreQuiet, Quiet, quiet_next, quiet_if, copy_quiet, memset_quiet, memcmp_quiet, strlen_quiet, strcmp_quiet, strcpy_quiet, offered_quiet, printed_quiet, block_quiet}
@@ -68,14 +68,14 @@ live_if true d e h g = h
 live_if false d e h g = g
 
 -- a request that is met
-born_by : (M N : Mem) (q : Request) (w : Result ℕ CreateError × Table) (i : ℕ) → w ≡ place M.table q → Ok i ≡ (made M w).0 → N ≡ (made M w).1 → IsBorn M.table N.table i
+born_by : (M N : Mem) (q : Request) (w : Result ℕ CreateError × Table) (i : ℕ) → w ≡ place M.table q → Ok i ≡ (with_new_bytes M w).0 → N ≡ (with_new_bytes M w).1 → IsBorn M.table N.table i
 born_by M N q ((Ok j), U) i e a m = born M.table N.table q i (a ∙ ap (λ (v : Result ℕ CreateError × Table). v.0) e) (ap (λ (K : Mem). K.table) m ∙ ap (λ (v : Result ℕ CreateError × Table). v.1) e)
 born_by M N q ((Err x), U) i e a m = absurd (ok_err i x a)
 
-born_here : (M N : Mem) (q : Request) (i : ℕ) → (Ok i, N) ≡ created M q → IsBorn M.table N.table i
+born_here : (M N : Mem) (q : Request) (i : ℕ) → (Ok i, N) ≡ creation M q → IsBorn M.table N.table i
 born_here M N q i e = born_by M N q (place M.table q) i refl (ap (λ (v : Result ℕ CreateError × Mem). v.0) e) (ap (λ (v : Result ℕ CreateError × Mem). v.1) e)
 
-granted_live : (S : Now) (q : Request) (w : Result ℕ CreateError × Mem) → w ≡ created S.memory q → AreQuiet S.notes → Live (granted S w)
+granted_live : (S : Now) (q : Request) (w : Result ℕ CreateError × Mem) → w ≡ creation S.memory q → AreQuiet S.notes → Live (grant_of S w)
 granted_live S q ((Ok i), N) e h = All-push (IsLiveIfMade N.table.instances) S.notes (Made i) (live_quiet N S.notes h) (live_born S.memory.table N.table i (born_here S.memory N q i e))
 granted_live S q ((Err error.Denied), N) e h = live_quiet N S.notes h
 granted_live S q ((Err error.NoMemory), N) e h = live_quiet N S.notes h
@@ -84,35 +84,35 @@ granted_live S q ((Err (error.Range k a)), N) e h = live_quiet N S.notes h
 granted_live S q ((Err (error.Misaligned k a)), N) e h = live_quiet N S.notes h
 granted_live S q ((Err (error.Overlap k a with)), N) e h = live_quiet N S.notes h
 
-requested_live : (n : ℕ) (S : Now) → AreQuiet S.notes → Live (requested n S)
-requested_live n S h = live_if (eqb n 0) _ _ (live_quiet S.memory S.notes h) (granted_live S (heap_request n) (created S.memory (heap_request n)) refl h)
+requested_live : (n : ℕ) (S : Now) → AreQuiet S.notes → Live (request_of_bytes n S)
+requested_live n S h = live_if (eqb n 0) _ _ (live_quiet S.memory S.notes h) (granted_live S (heap_request n) (creation S.memory (heap_request n)) refl h)
 
-allocated_live : (r : Result ℕ Reply) (S : Now) → AreLive S.memory S.notes → Live (allocated r S)
+allocated_live : (r : Result ℕ Reply) (S : Now) → AreLive S.memory S.notes → Live (pointer_or_null r S)
 allocated_live (Err x) S h = h
 allocated_live (Ok i) S h = h
 
 malloc_live : (n : ℕ) (S : Now) → AreQuiet S.notes → Live (malloc n S)
-malloc_live n S h = live_by (requested n S).answer (requested n S) allocated (requested_live n S h) (λ r e. allocated_live r (requested n S).after (requested_live n S h))
+malloc_live n S h = live_by (request_of_bytes n S).answer (request_of_bytes n S) pointer_or_null (requested_live n S h) (λ r e. allocated_live r (request_of_bytes n S).after (requested_live n S h))
 
-zeroed_live : (i : ℕ) (o : Option Info) (M : Mem) (notes : List Note) → AreLive M notes → AreLive (zeroed i o M) notes
+zeroed_live : (i : ℕ) (o : Option Info) (M : Mem) (notes : List Note) → AreLive M notes → AreLive (with_zeros i o M) notes
 zeroed_live i None M notes h = h
 zeroed_live i (Some x) M notes h = h
 
-cleared_live : (r : Result ℕ Reply) (S : Now) → AreLive S.memory S.notes → Live (cleared r S)
+cleared_live : (r : Result ℕ Reply) (S : Now) → AreLive S.memory S.notes → Live (pointer_to_zeros r S)
 cleared_live (Err x) S h = h
 cleared_live (Ok i) S h = zeroed_live i (told_of S.memory i) S.memory S.notes h
 
 calloc_live : (count n : ℕ) (S : Now) → AreQuiet S.notes → Live (calloc count n S)
 calloc_live count n S h =
-    let d = requested (count * n) S in
-    live_by d.answer d cleared (requested_live (count * n) S h) (λ r e. cleared_live r d.after (requested_live (count * n) S h))
+    let d = request_of_bytes (count * n) S in
+    live_by d.answer d pointer_to_zeros (requested_live (count * n) S h) (λ r e. cleared_live r d.after (requested_live (count * n) S h))
 
 -- what a request that is met leaves
 record IsGranted (S : Now) (j : ℕ) (T : Now) : Type 0 where
   notes : T.notes ≡ S.notes ++ Made j ∷ []
   new : IsBorn S.memory.table T.memory.table j
 
-granted_is : (S : Now) (q : Request) (j : ℕ) (w : Result ℕ CreateError × Mem) → w ≡ created S.memory q → (granted S w).answer ≡ Ok (Ok j) → IsGranted S j (granted S w).after
+granted_is : (S : Now) (q : Request) (j : ℕ) (w : Result ℕ CreateError × Mem) → w ≡ creation S.memory q → (grant_of S w).answer ≡ Ok (Ok j) → IsGranted S j (grant_of S w).after
 granted_is S q j ((Ok i), N) e a =
     let same : i ≡ j = cc in
     record { notes = ap (λ k. S.notes ++ Made k ∷ []) same; new = subst (λ k. IsBorn S.memory.table N.table k) same (born_here S.memory N q i e) }
@@ -123,12 +123,12 @@ granted_is S q j ((Err (error.Range k b)), N) e a = absurd cc
 granted_is S q j ((Err (error.Misaligned k b)), N) e a = absurd cc
 granted_is S q j ((Err (error.Overlap k b with)), N) e a = absurd cc
 
-requested_by : (b : Bool) (S : Now) (d : Did (Result ℕ Reply)) (j : ℕ) → (d.answer ≡ Ok (Ok j) → IsGranted S j d.after) → (cond b (done (Err (reply.Value null)) S) d).answer ≡ Ok (Ok j) → IsGranted S j (cond b (done (Err (reply.Value null)) S) d).after
+requested_by : (b : Bool) (S : Now) (d : Did (Result ℕ Reply)) (j : ℕ) → (d.answer ≡ Ok (Ok j) → IsGranted S j d.after) → (cond b (answer_now (Err (reply.Value null)) S) d).answer ≡ Ok (Ok j) → IsGranted S j (cond b (answer_now (Err (reply.Value null)) S) d).after
 requested_by true S d j f a = absurd cc
 requested_by false S d j f a = f a
 
-requested_is : (n : ℕ) (S : Now) (j : ℕ) → (requested n S).answer ≡ Ok (Ok j) → IsGranted S j (requested n S).after
-requested_is n S j a = requested_by (eqb n 0) S (granted S (created S.memory (heap_request n))) j (granted_is S (heap_request n) j (created S.memory (heap_request n)) refl) a
+requested_is : (n : ℕ) (S : Now) (j : ℕ) → (request_of_bytes n S).answer ≡ Ok (Ok j) → IsGranted S j (request_of_bytes n S).after
+requested_is n S j a = requested_by (eqb n 0) S (grant_of S (creation S.memory (heap_request n))) j (granted_is S (heap_request n) j (creation S.memory (heap_request n)) refl) a
 
 -- the old allocation is another one
 abbrev LiveIn : Option Instance → Type 0
@@ -138,33 +138,33 @@ none_live : (o : Option Instance) → o ≡ None → LiveIn o → ⊥
 none_live None e h = h
 none_live (Some x) e h = none-some x (sym e)
 
-both_table : (o p : Option Info) (M : Mem) → (both o p M).table ≡ M.table
+both_table : (o p : Option Info) (M : Mem) → (after_block_copy o p M).table ≡ M.table
 both_table (Some x) (Some y) M = refl
 both_table (Some x) None M = refl
 both_table None (Some y) M = refl
 both_table None None M = refl
 
-moved_live : (S T : Now) (i j : ℕ) → IsGranted S j T → IsLive S.memory.table.instances i → AreQuiet S.notes → Live (moved i (Ok j) T)
+moved_live : (S T : Now) (i j : ℕ) → IsGranted S j T → IsLive S.memory.table.instances i → AreQuiet S.notes → Live (reply_after_move i (Ok j) T)
 moved_live S T i j g l h =
     let before = S.memory.table in
     let now = T.memory.table in
     let other : i ≢ j = λ e. none_live (instance_at before.instances i) (ap (λ k. instance_at before.instances k) e ∙ g.new.was) l in
     let old : IsLive now.instances i = subst LiveIn (sym (g.new.others i other)) l in
-    let new : IsLive (ended now i).instances j = subst LiveIn (sym ((over_ended now i old).others j (λ e. other (sym e)))) (live_born before now j g.new) in
+    let new : IsLive (after_end now i).instances j = subst LiveIn (sym ((over_ended now i old).others j (λ e. other (sym e)))) (live_born before now j g.new) in
     let P : List Instance → Note → Type 0 = λ xs n. IsLiveIfMade xs n in
-    let all : All (P (ended now i).instances) (S.notes ++ Made j ∷ []) = All-push (P (ended now i).instances) S.notes (Made j) (All-weaker IsQuiet (P (ended now i).instances) (quiet_note (ended now i).instances) S.notes h) new in
-    let held : All (P (ended now i).instances) (T.notes ++ Ended i ∷ []) = All-push (P (ended now i).instances) T.notes (Ended i) (subst (λ ns. All (P (ended now i).instances) ns) (sym g.notes) all) tt in
-    subst (λ (U : Table). All (P (ended U i).instances) (T.notes ++ Ended i ∷ [])) (sym (both_table (told_of T.memory i) (told_of T.memory j) T.memory)) held
+    let all : All (P (after_end now i).instances) (S.notes ++ Made j ∷ []) = All-push (P (after_end now i).instances) S.notes (Made j) (All-weaker IsQuiet (P (after_end now i).instances) (quiet_note (after_end now i).instances) S.notes h) new in
+    let held : All (P (after_end now i).instances) (T.notes ++ Ended i ∷ []) = All-push (P (after_end now i).instances) T.notes (Ended i) (subst (λ ns. All (P (after_end now i).instances) ns) (sym g.notes) all) tt in
+    subst (λ (U : Table). All (P (after_end U i).instances) (T.notes ++ Ended i ∷ [])) (sym (both_table (told_of T.memory i) (told_of T.memory j) T.memory)) held
 
-moved_by : (S : Now) (d : Did (Result ℕ Reply)) (i : ℕ) (r : Result ℕ Reply) → ((j : ℕ) → d.answer ≡ Ok (Ok j) → IsGranted S j d.after) → d.answer ≡ Ok r → Live d → IsLive S.memory.table.instances i → AreQuiet S.notes → Live (moved i r d.after)
+moved_by : (S : Now) (d : Did (Result ℕ Reply)) (i : ℕ) (r : Result ℕ Reply) → ((j : ℕ) → d.answer ≡ Ok (Ok j) → IsGranted S j d.after) → d.answer ≡ Ok r → Live d → IsLive S.memory.table.instances i → AreQuiet S.notes → Live (reply_after_move i r d.after)
 moved_by S d i (Err x) f a v l h = v
 moved_by S d i (Ok j) f a v l h = moved_live S d.after i j (f j a) l h
 
-resized_live : (n i : ℕ) (S : Now) → IsLive S.memory.table.instances i → AreQuiet S.notes → Live (resized n i S)
+resized_live : (n i : ℕ) (S : Now) → IsLive S.memory.table.instances i → AreQuiet S.notes → Live (resize_of n i S)
 resized_live n i S l h =
-    let d = requested n S in
+    let d = request_of_bytes n S in
     live_if (eqb n 0) _ _ (live_quiet S.memory S.notes h)
-    (live_by d.answer d (moved i) (requested_live n S h) (λ r a. moved_by S d i r (requested_is n S) a (requested_live n S h) l h))
+    (live_by d.answer d (reply_after_move i) (requested_live n S h) (λ r a. moved_by S d i r (requested_is n S) a (requested_live n S h) l h))
 
 -- an allocation that is given back is live
 about_is : {A : Type 0} (r : Result A Stop) (note : Note) (d : Did A) (a : A) → (about_by r note d).answer ≡ Ok a → (d.answer ≡ Ok a) × ((about_by r note d).after ≡ d.after)
@@ -180,10 +180,10 @@ the_live c M None i a = absurd cc
 the_live c M (Some k) i a = in_live c M.table k i (told_of M k) refl a
 
 answer_live : (c : Clause) (M : Mem) (p : Pointer) (found : Result Tried Miss) (i : ℕ) → block_answer c M p found ≡ Ok i → IsLive M.table.instances i
-answer_live c M p (Ok tried) i a = the_live c M (chosen (stands M.table.pairs p.prov) tried) i a
+answer_live c M p (Ok tried) i a = the_live c M (first_survivor (stands M.table.pairs p.prov) tried) i a
 answer_live c M p (Err m) i a = absurd cc
 
-settled_same : (T : Table) (p : Prov) (r : Result Tried Miss) → (settled T p r).instances ≡ T.instances
+settled_same : (T : Table) (p : Prov) (r : Result Tried Miss) → (after_use T p r).instances ≡ T.instances
 settled_same T Empty r = refl
 settled_same T (Inst i) r = refl
 settled_same T (Pair k) (Ok tried) = refl
@@ -202,13 +202,13 @@ realloc_live g n S q h =
     let d = block clause.Reallocating g S in
     let still = block_quiet clause.Reallocating g S q h in
     live_if (is_null g.pointer) _ _ (malloc_live n S h)
-    (live_by d.answer d (resized n) (live_quiet d.after.memory d.after.notes still) (λ i a. resized_live n i d.after (block_live clause.Reallocating g S i a) still))
+    (live_by d.answer d (resize_of n) (live_quiet d.after.memory d.after.notes still) (λ i a. resized_live n i d.after (block_live clause.Reallocating g S i a) still))
 
 free_quiet : (g : Given) (S : Now) → IsQuiet g.stopped → AreQuiet S.notes → Quiet (free g S)
-free_quiet g S q h = quiet_if (is_null g.pointer) _ _ h (quiet_next (block clause.Freeing g S) freed (block_quiet clause.Freeing g S q h) (λ i T k. All-push IsQuiet T.notes (Ended i) k tt))
+free_quiet g S q h = quiet_if (is_null g.pointer) _ _ h (quiet_next (block clause.Freeing g S) end_of_block (block_quiet clause.Freeing g S q h) (λ i T k. All-push IsQuiet T.notes (Ended i) k tt))
 
 printf_quiet : (a : List Arg) (S : Now) → AreQuiet S.notes → Quiet (printf a S)
-printf_quiet a S h = quiet_next (printed a S) _ (printed_quiet (format_of S.memory (pointer a 0).prov) _ S (offered_quiet S.memory (drop 1 a)) h) (λ text T k. k)
+printf_quiet a S h = quiet_next (text_of_format a S) _ (printed_quiet (format_of S.memory (pointer a 0).prov) _ S (offered_quiet S.memory (drop 1 a)) h) (λ text T k. k)
 
 quiet_did : {A : Type 0} (d : Did A) → Quiet d → Live d
 quiet_did d h = live_quiet d.after.memory d.after.notes h
@@ -230,7 +230,7 @@ called_in_live library.Abort a S h = live_quiet S.memory S.notes h
 called_in_live library.Printf a S h = quiet_did (called_in library.Printf a S) (printf_quiet a S h)
 
 -- each instance that a call notes as made
-pub called_live : (f : Library) (a : List Arg) (M : Mem) → AreLive (called f a M).after.memory (called f a M).after.notes
+pub called_live : (f : Library) (a : List Arg) (M : Mem) → AreLive (reply_to_call f a M).after.memory (reply_to_call f a M).after.notes
 called_live f a M = called_in_live f a (with_notes M []) (All-nil IsQuiet)
 
 -- behind what was noted before it
@@ -247,4 +247,4 @@ behind_live (Err (Ends v)) M before notes all d is h l = behind_by M before note
 pub noted_live : (r : Result Reply Stop) (M N : Mem) (f : Library) (a : List Arg) (none before notes all : List Note) → none ≡ [] → all ≡ before ++ notes → OrNoMemory r (with_notes N notes) (called_in f a (with_notes M none))
     → UnlessNoMemory r (AreLive N before → AreLive N all)
 noted_live r M N f a none before notes all e is h =
-    behind_live r N before notes all (called f a M) is (subst (λ ns. OrNoMemory r (with_notes N notes) (called_in f a (with_notes M ns))) e h) (called_live f a M)
+    behind_live r N before notes all (reply_to_call f a M) is (subst (λ ns. OrNoMemory r (with_notes N notes) (called_in f a (with_notes M ns))) e h) (called_live f a M)

@@ -10,20 +10,20 @@ use Rattle.pv_num.specs.declared.kinds.IntKind.TheVariants.{UInt}
 use Rattle.pv_num.specs.Kinds.{bits_of}
 use Rattle.pv_inst.specs.Table.{Table, IsMadeIn}
 use Rattle.pv_shadow.specs.declared.byte.Byte.{Byte}
-use Rattle.pv_shadow.specs.Bytes.{Store, written}
-use Rattle.pv_shadow.specs.Whole.{plain, little_endian}
+use Rattle.pv_shadow.specs.Bytes.{Store, with_bytes_at}
+use Rattle.pv_shadow.specs.Whole.{number_bytes, little_endian}
 use Rattle.pv_object.specs.declared.values.Scalar.TheVariants as scalar
 use Rattle.pv_object.specs.declared.values.Value.TheVariants as value
-use Rattle.pv_object.specs.Answers.{stored}
+use Rattle.pv_object.specs.Answers.{after_storing}
 use Rattle.pv_object.specs.Memory.{Mem}
 use Rattle.pv_object.specs.Copying.{with_bytes}
 use Rattle.pv_libc.specs.Blocks.{plain_byte}
 
-written_parts : (m : Store) (a : ℕ) (xs ys : List Byte) → written (written m a xs) (a + length xs) ys ≡ written m a (xs ++ ys)
-written_parts m a [] ys = let e : a + 0 ≡ a = omega arith in ap (λ (q : ℕ). written m q ys) e
+written_parts : (m : Store) (a : ℕ) (xs ys : List Byte) → with_bytes_at (with_bytes_at m a xs) (a + length xs) ys ≡ with_bytes_at m a (xs ++ ys)
+written_parts m a [] ys = let e : a + 0 ≡ a = omega arith in ap (λ (q : ℕ). with_bytes_at m q ys) e
 written_parts m a (x ∷ xs) ys =
     let e : a + suc (length xs) ≡ (a + 1) + length xs = omega arith in
-    ap (λ (q : ℕ). written (written (insert m a x) (a + 1) xs) q ys) e ∙ written_parts (insert m a x) (a + 1) xs ys
+    ap (λ (q : ℕ). with_bytes_at (with_bytes_at (insert m a x) (a + 1) xs) q ys) e ∙ written_parts (insert m a x) (a + 1) xs ys
 
 -- n more, behind the first i
 pub put_more : (M : Mem) (a i n : ℕ) (text : List ℕ) → i + n ≤ length text
@@ -58,7 +58,7 @@ row_made T (v ∷ text) = All-cons (λ (b : Byte). IsMadeIn T b.prov) (plain_byt
 bits_kept : (k : ℕ) → k < 2 ^ 32 → bits_of UInt (pos k) ≡ k
 bits_kept k h = let e : k % (2 ^ 32) ≡ k = omega (arith, h) in e
 
-plain_bytes : (j : ℕ) (vs : List ℕ) → plain None j vs ≡ map plain_byte vs
+plain_bytes : (j : ℕ) (vs : List ℕ) → number_bytes None j vs ≡ map plain_byte vs
 plain_bytes j [] = refl
 plain_bytes j (v ∷ vs) = ap (λ (bs : List Byte). plain_byte v ∷ bs) (plain_bytes (j + 1) vs)
 
@@ -74,9 +74,9 @@ four_of (v ∷ w ∷ x ∷ y ∷ z ∷ more) d l = absurd (omega (arith, l))
 -- four characters that are stored as the number of which they are the digits
 pub four_stored : (M : Mem) (a k : ℕ) (text : List ℕ) (d : ℕ) → k < 2 ^ 32 → length text ≡ 4
     → little_endian 4 k ≡ slice_index_or text 0 d ∷ slice_index_or text 1 d ∷ slice_index_or text 2 d ∷ slice_index_or text 3 d ∷ []
-    → stored M a (scalar.Int UInt) (value.Int (pos k)) None ≡ with_bytes M a (map plain_byte text)
+    → after_storing M a (scalar.Int UInt) (value.Int (pos k)) None ≡ with_bytes M a (map plain_byte text)
 four_stored M a k text d few four digits =
-    ap (λ (n : ℕ). with_bytes M a (plain None 0 (little_endian 4 n))) (bits_kept k few)
+    ap (λ (n : ℕ). with_bytes M a (number_bytes None 0 (little_endian 4 n))) (bits_kept k few)
     ∙ ap (with_bytes M a) (plain_bytes 0 (little_endian 4 k))
     ∙ ap (λ (vs : List ℕ). with_bytes M a (map plain_byte vs)) (digits ∙ four_of text d four)
 

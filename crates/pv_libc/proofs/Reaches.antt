@@ -7,7 +7,7 @@ use Rattle.pv_inst.specs.Table.{Table, instance_at}
 use Rattle.pv_inst.specs.Infos.{info_of}
 use Rattle.pv_inst.specs.Answers.{IsLive}
 use Rattle.pv_inst.specs.WellFormed.{IsWellFormed}
-use Rattle.pv_inst.specs.Use.{untried}
+use Rattle.pv_inst.specs.Use.{empty_use}
 use Rattle.pv_object.specs.declared.values.Reach.{Reach}
 use Rattle.pv_object.specs.Reaching.{IsReach, IsReachIn}
 
@@ -50,12 +50,12 @@ whole_by : (b : Bool) (x : Instance) (y z : Info) (k : ℕ) → x.live ≡ b →
 whole_by false x y z k l p q e = absurd (none-some y e)
 whole_by true x y z k l p q e = let same : z ≡ y = cc in (l, sym (ap (λ (w : Info). w.base) same) ∙ p, sym (ap (λ (w : Info). w.size) same) ∙ q)
 
-whole_in : (o : Option Instance) (i : ℕ) (y : Info) (k : ℕ) → info_of o ≡ Some y → k ≤ y.size → IsReachIn o (record { inst = i; offset = 0; address = y.base; tried = untried }) k
+whole_in : (o : Option Instance) (i : ℕ) (y : Info) (k : ℕ) → info_of o ≡ Some y → k ≤ y.size → IsReachIn o (record { inst = i; offset = 0; address = y.base; tried = empty_use }) k
 whole_in None i y k e l = absurd (none-some y e)
 whole_in (Some x) i y k e l =
     let w = whole_by x.live x y _ k refl refl refl e in
     (w.0, omega (arith, w.1), omega (arith, l, w.2))
 
 -- its first bytes are within reach
-pub whole_reach : (T : Table) (i : ℕ) (y : Info) (k : ℕ) → info_of (instance_at T.instances i) ≡ Some y → k ≤ y.size → IsReach T (record { inst = i; offset = 0; address = y.base; tried = untried }) k
+pub whole_reach : (T : Table) (i : ℕ) (y : Info) (k : ℕ) → info_of (instance_at T.instances i) ≡ Some y → k ≤ y.size → IsReach T (record { inst = i; offset = 0; address = y.base; tried = empty_use }) k
 whole_reach T i y k e l = whole_in (instance_at T.instances i) i y k e l

@@ -12,7 +12,7 @@ use Rattle.pv_object.specs.declared.values.Value.TheVariants as value
 use Rattle.pv_libc.specs.declared.values.Note.{Note}
 use Rattle.pv_libc.specs.declared.values.Given.{Given}
 use Rattle.pv_libc.specs.declared.values.Reply.TheVariants as reply
-use Rattle.pv_libc.specs.Steps.{Did, done, next, with_notes}
+use Rattle.pv_libc.specs.Steps.{Did, answer_now, next, with_notes}
 use Rattle.pv_libc.specs.Characters.{characters_from}
 use Rattle.pv_libc.specs.Blocks.{difference, sign_of}
 use Rattle.pv_libc.specs.Ahead.{sign_or, digits_or, rows_compared}
@@ -59,8 +59,8 @@ pub more_plain : (m : Store) (a i n : ℕ) → ArePlainFrom m a i → ArePlainFr
 more_plain m a i n h p = λ j k. let o : (j < i) ⊎ (i ≤ j) = grind arith in plain_by m a i n j o h p k
 
 -- n of them are read, behind those that were
-row_read : (M : Mem) (g : Given) (a n : ℕ) (read : List ℕ) (notes : List Note) → M.table.pending ≡ [] → ArePlainFrom M.bytes a n → characters_from n g a read (with_notes M notes) ≡ done (read ++ row_at M.bytes a n) (with_notes M notes)
-row_read M g a zero read notes all h = ap (λ (xs : List ℕ). done xs (with_notes M notes)) (sym (append-nil read))
+row_read : (M : Mem) (g : Given) (a n : ℕ) (read : List ℕ) (notes : List Note) → M.table.pending ≡ [] → ArePlainFrom M.bytes a n → characters_from n g a read (with_notes M notes) ≡ answer_now (read ++ row_at M.bytes a n) (with_notes M notes)
+row_read M g a zero read notes all h = ap (λ (xs : List ℕ). answer_now xs (with_notes M notes)) (sym (append-nil read))
 row_read M g a (suc n) read notes all h =
     let S = with_notes M notes in
     let v = value_at M.bytes a in
@@ -70,15 +70,15 @@ row_read M g a (suc n) read notes all h =
     let others : ArePlainFrom M.bytes (a + 1) n = λ j l. let e : a + suc j ≡ (a + 1) + j = omega arith in subst (IsPlainAt M.bytes) e (h (suc j) (omega (arith, l))) in
     ap (λ (d : Did ℕ). next d (λ c T. characters_from n g (a + 1) (read ++ c ∷ []) T)) (character_plain M g a v all first.0 first.1 notes)
     ∙ row_read M g (a + 1) n (read ++ v ∷ []) notes all others
-    ∙ ap (λ (xs : List ℕ). done xs S) (append_assoc read (v ∷ []) rest)
+    ∙ ap (λ (xs : List ℕ). answer_now xs S) (append_assoc read (v ∷ []) rest)
 
 -- two rows are read and compared
 pub rows_plain : (M : Mem) (a b n : ℕ) → M.table.pending ≡ [] → ArePlainFrom M.bytes a n → ArePlainFrom M.bytes b n → (p q : Given) (notes : List Note)
-    → rows_compared p q a b n (with_notes M notes) ≡ done (reply.Value (value.Int (difference (row_at M.bytes a n) (row_at M.bytes b n)))) (with_notes M notes)
+    → rows_compared p q a b n (with_notes M notes) ≡ answer_now (reply.Value (value.Int (difference (row_at M.bytes a n) (row_at M.bytes b n)))) (with_notes M notes)
 rows_plain M a b n all one other p q notes =
     let ls = row_at M.bytes a n in
-    ap (λ (d : Did (List ℕ)). next d (λ xs T. next (characters_from n q b [] T) (λ ys U. done (reply.Value (value.Int (difference xs ys))) U))) (row_read M p a n [] notes all one)
-    ∙ ap (λ (d : Did (List ℕ)). next d (λ ys U. done (reply.Value (value.Int (difference ls ys))) U)) (row_read M q b n [] notes all other)
+    ap (λ (d : Did (List ℕ)). next d (λ xs T. next (characters_from n q b [] T) (λ ys U. answer_now (reply.Value (value.Int (difference xs ys))) U))) (row_read M p a n [] notes all one)
+    ∙ ap (λ (d : Did (List ℕ)). next d (λ ys U. answer_now (reply.Value (value.Int (difference ls ys))) U)) (row_read M q b n [] notes all other)
 
 -- the rows, before the first place
 pub difference_from : (m : Store) (a b n : ℕ) → difference (row_at m (a + 0) (n - 0)) (row_at m (b + 0) (n - 0)) ≡ difference (row_at m a n) (row_at m b n)

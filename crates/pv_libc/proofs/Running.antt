@@ -7,7 +7,7 @@ use Rattle.pv_object.specs.declared.values.Value.TheVariants as value
 use Rattle.pv_libc.specs.declared.values.Given.{Given}
 use Rattle.pv_libc.specs.declared.values.Reply.{Reply}
 use Rattle.pv_libc.specs.declared.values.Reply.TheVariants as reply
-use Rattle.pv_libc.specs.Steps.{Now, Did, done, next}
+use Rattle.pv_libc.specs.Steps.{Now, Did, answer_now, next}
 use Rattle.pv_libc.specs.Answers.{OrNoMemory}
 use Rattle.pv_libc.specs.Characters.{character_in, character_at, characters_from, string_from}
 use Rattle.pv_libc.specs.Blocks.{sign_of}
@@ -21,18 +21,18 @@ left n i l = omega (arith, l)
 pub equal_is : (a b : ℕ) → a ≡ b → eqb a b ≡ true
 equal_is a b e = search rules
 
-pub by_different : (a b : ℕ) (S : Now) (rest : Did Reply) → eqb a b ≡ false → compared_by a b S rest ≡ done (reply.Value (value.Int (sign_of a b))) S
-by_different a b S rest e = ap (λ t. cond (not t) (done (reply.Value (value.Int (sign_of a b))) S) (cond (eqb a 0) (done (reply.Value (value.Int (pos 0))) S) rest)) e
+pub by_different : (a b : ℕ) (S : Now) (rest : Did Reply) → eqb a b ≡ false → compared_by a b S rest ≡ answer_now (reply.Value (value.Int (sign_of a b))) S
+by_different a b S rest e = ap (λ t. cond (not t) (answer_now (reply.Value (value.Int (sign_of a b))) S) (cond (eqb a 0) (answer_now (reply.Value (value.Int (pos 0))) S) rest)) e
 
-pub by_zero : (a b : ℕ) (S : Now) (rest : Did Reply) → eqb a b ≡ true → eqb a 0 ≡ true → compared_by a b S rest ≡ done (reply.Value (value.Int (pos 0))) S
+pub by_zero : (a b : ℕ) (S : Now) (rest : Did Reply) → eqb a b ≡ true → eqb a 0 ≡ true → compared_by a b S rest ≡ answer_now (reply.Value (value.Int (pos 0))) S
 by_zero a b S rest e f =
-    ap (λ t. cond (not t) (done (reply.Value (value.Int (sign_of a b))) S) (cond (eqb a 0) (done (reply.Value (value.Int (pos 0))) S) rest)) e
-    ∙ ap (λ t. cond t (done (reply.Value (value.Int (pos 0))) S) rest) f
+    ap (λ t. cond (not t) (answer_now (reply.Value (value.Int (sign_of a b))) S) (cond (eqb a 0) (answer_now (reply.Value (value.Int (pos 0))) S) rest)) e
+    ∙ ap (λ t. cond t (answer_now (reply.Value (value.Int (pos 0))) S) rest) f
 
 pub by_rest : (a b : ℕ) (S : Now) (rest : Did Reply) → eqb a b ≡ true → eqb a 0 ≡ false → compared_by a b S rest ≡ rest
 by_rest a b S rest e f =
-    ap (λ t. cond (not t) (done (reply.Value (value.Int (sign_of a b))) S) (cond (eqb a 0) (done (reply.Value (value.Int (pos 0))) S) rest)) e
-    ∙ ap (λ t. cond t (done (reply.Value (value.Int (pos 0))) S) rest) f
+    ap (λ t. cond (not t) (answer_now (reply.Value (value.Int (sign_of a b))) S) (cond (eqb a 0) (answer_now (reply.Value (value.Int (pos 0))) S) rest)) e
+    ∙ ap (λ t. cond t (answer_now (reply.Value (value.Int (pos 0))) S) rest) f
 
 -- two strings, before character i of each
 module _ (n i : ℕ) (p q : Given) (S : Now) (l : i < n) where
@@ -61,25 +61,25 @@ module _ (n i : ℕ) (p q : Given) (S : Now) (l : i < n) where
 
 -- a string, behind the characters read
 module _ (n i : ℕ) (by : Asker) (g : Given) (read : List ℕ) (S : Now) (l : i < n) (count : length read ≡ i) where
-  string_is : string_from (n - i) by g read S ≡ next (character_at by g i S) (λ c T. cond (eqb c 0) (done read T) (string_from (n - (i + 1)) by g (read ++ c ∷ []) T))
+  string_is : string_from (n - i) by g read S ≡ next (character_at by g i S) (λ c T. cond (eqb c 0) (answer_now read T) (string_from (n - (i + 1)) by g (read ++ c ∷ []) T))
   string_is =
       ap (λ z. string_from z by g read S) (left n i l)
-      ∙ ap (λ j. next (character_at by g j S) (λ c T. cond (eqb c 0) (done read T) (string_from (n - (i + 1)) by g (read ++ c ∷ []) T))) count
+      ∙ ap (λ j. next (character_at by g j S) (λ c T. cond (eqb c 0) (answer_now read T) (string_from (n - (i + 1)) by g (read ++ c ∷ []) T))) count
 
   pub string_stops : (T : Now) (stop : Stop) → OrNoMemory {A = ℕ} (Err stop) T (character_at by g i S) → OrNoMemory {A = List ℕ} (Err stop) T (string_from (n - i) by g read S)
   string_stops T stop h =
       let P : Did (List ℕ) → Type 0 = λ d. OrNoMemory (Err stop) T d in
-      subst P (sym string_is) (or_stop stop T (character_at by g i S) (λ c T. cond (eqb c 0) (done read T) (string_from (n - (i + 1)) by g (read ++ c ∷ []) T)) h)
+      subst P (sym string_is) (or_stop stop T (character_at by g i S) (λ c T. cond (eqb c 0) (answer_now read T) (string_from (n - (i + 1)) by g (read ++ c ∷ []) T)) h)
 
   module _ (T : Now) (c : ℕ) (e : Ok c ≡ (character_at by g i S).answer) (m : T ≡ (character_at by g i S).after) where
-    string_on : string_from (n - i) by g read S ≡ cond (eqb c 0) (done read T) (string_from (n - (i + 1)) by g (read ++ c ∷ []) T)
-    string_on = string_is ∙ next_is (character_at by g i S) c T (λ c T. cond (eqb c 0) (done read T) (string_from (n - (i + 1)) by g (read ++ c ∷ []) T)) e m
+    string_on : string_from (n - i) by g read S ≡ cond (eqb c 0) (answer_now read T) (string_from (n - (i + 1)) by g (read ++ c ∷ []) T)
+    string_on = string_is ∙ next_is (character_at by g i S) c T (λ c T. cond (eqb c 0) (answer_now read T) (string_from (n - (i + 1)) by g (read ++ c ∷ []) T)) e m
 
-    pub string_ends : eqb c 0 ≡ true → string_from (n - i) by g read S ≡ done read T
-    string_ends f = string_on ∙ ap (λ b. cond b (done read T) (string_from (n - (i + 1)) by g (read ++ c ∷ []) T)) f
+    pub string_ends : eqb c 0 ≡ true → string_from (n - i) by g read S ≡ answer_now read T
+    string_ends f = string_on ∙ ap (λ b. cond b (answer_now read T) (string_from (n - (i + 1)) by g (read ++ c ∷ []) T)) f
 
     pub string_next : eqb c 0 ≡ false → string_from (n - i) by g read S ≡ string_from (n - (i + 1)) by g (read ++ c ∷ []) T
-    string_next f = string_on ∙ ap (λ b. cond b (done read T) (string_from (n - (i + 1)) by g (read ++ c ∷ []) T)) f
+    string_next f = string_on ∙ ap (λ b. cond b (answer_now read T) (string_from (n - (i + 1)) by g (read ++ c ∷ []) T)) f
 
 -- characters in a row
 module _ (n i a : ℕ) (g : Given) (read : List ℕ) (S : Now) (l : i < n) where

@@ -8,7 +8,7 @@ use Rattle.pv_object.specs.Access.{is_null}
 use Rattle.pv_libc.specs.declared.values.Note.{Note}
 use Rattle.pv_libc.specs.declared.values.Given.{Given}
 use Rattle.pv_libc.specs.declared.values.Reply.{Reply}
-use Rattle.pv_libc.specs.Heap.{block, realloc, resized, malloc}
+use Rattle.pv_libc.specs.Heap.{block, realloc, resize_of, malloc}
 use Rattle.pv_libc.specs.Steps.{Now, Did, next, next_by, with_notes}
 use Rattle.pv_libc.specs.Answers.{OrNoMemory, behind}
 
@@ -46,7 +46,7 @@ or_behind (Err NoMemory) M before notes d h = tt
 or_behind (Err (Ends v)) M before notes d h = (h.0, ap (λ (S : Now). record S { notes = before ++ S.notes }) h.1)
 
 -- behind the block that is given up
-pub realloc_next : (r : Result Reply Stop) (T S U : Now) (g : Given) (size i : ℕ) → is_null g.pointer ≡ false → OrNoMemory (Ok i) U (block Reallocating g S) → OrNoMemory r T (resized size i U) → OrNoMemory r T (realloc g size S)
+pub realloc_next : (r : Result Reply Stop) (T S U : Now) (g : Given) (size i : ℕ) → is_null g.pointer ≡ false → OrNoMemory (Ok i) U (block Reallocating g S) → OrNoMemory r T (resize_of size i U) → OrNoMemory r T (realloc g size S)
 realloc_next r T S U g size i e b h =
-    let P : Bool → Type 0 = λ null. OrNoMemory r T (cond null (malloc size S) (next (block Reallocating g S) (resized size))) in
-    subst P (sym e) (or_next r T (block Reallocating g S) i U (resized size) b.0 b.1 h)
+    let P : Bool → Type 0 = λ null. OrNoMemory r T (cond null (malloc size S) (next (block Reallocating g S) (resize_of size))) in
+    subst P (sym e) (or_next r T (block Reallocating g S) i U (resize_of size) b.0 b.1 h)

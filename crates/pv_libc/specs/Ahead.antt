@@ -13,7 +13,7 @@ use Rattle.pv_libc.specs.declared.values.Note.{Note}
 use Rattle.pv_libc.specs.declared.values.Given.{Given}
 use Rattle.pv_libc.specs.declared.values.Reply.{Reply}
 use Rattle.pv_libc.specs.declared.values.Reply.TheVariants as reply
-use Rattle.pv_libc.specs.Steps.{Now, Did, with_notes, done, next}
+use Rattle.pv_libc.specs.Steps.{Now, Did, with_notes, answer_now, next}
 use Rattle.pv_libc.specs.Blocks.{difference, sign_of}
 use Rattle.pv_libc.specs.Characters.{character_at, characters_from, string_at, most}
 use Rattle.pv_libc.specs.StringParts.{strcmp}
@@ -33,16 +33,16 @@ pub record HasRoom (T : Table) (p : Pointer) (n : ℕ) : Type 0 where
 
 -- 7.24.1p3: the character so many bytes further on is this one, and reading it leaves all as it was
 abbrev pub GivesAt : Mem → Given → (i c : ℕ) → Type 0
-GivesAt M g i c = (by : Asker) (notes : List Note) → character_at by g i (with_notes M notes) ≡ done c (with_notes M notes)
+GivesAt M g i c = (by : Asker) (notes : List Note) → character_at by g i (with_notes M notes) ≡ answer_now c (with_notes M notes)
 
 -- 7.1.1p1: the string is this one, and reading it leaves all as it was
 pub record IsPlainString (M : Mem) (g : Given) (text : List ℕ) : Type 0 where
   pub few : length text < most
-  pub is : (by : Asker) (notes : List Note) → string_at by g (with_notes M notes) ≡ done text (with_notes M notes)
+  pub is : (by : Asker) (notes : List Note) → string_at by g (with_notes M notes) ≡ answer_now text (with_notes M notes)
 
 -- 7.24.4.2p2, p3: the comparison of two strings replies this, and leaves all as it was
 abbrev pub ComparesPlainly : Mem → (p q : Given) → Reply → Type 0
-ComparesPlainly M p q reply = (notes : List Note) → strcmp p q (with_notes M notes) ≡ done reply (with_notes M notes)
+ComparesPlainly M p q reply = (notes : List Note) → strcmp p q (with_notes M notes) ≡ answer_now reply (with_notes M notes)
 
 -- 7.24.4p1: the sign of two characters that differ, or else what the rest answers
 abbrev pub sign_or : (a b : ℕ) → ℤ → ℤ
@@ -57,8 +57,8 @@ digits_or (suc n) x y rest = sign_or (x % 256) (y % 256) (digits_or n (x / 256) 
 abbrev pub rows_compared : Given → Given → (a b n : ℕ) → Now → Did Reply
 rows_compared p q a b n S =
     next (characters_from n p a [] S) (λ ls T.
-    next (characters_from n q b [] T) (λ rs U. done (reply.Value (value.Int (difference ls rs))) U))
+    next (characters_from n q b [] T) (λ rs U. answer_now (reply.Value (value.Int (difference ls rs))) U))
 
 -- 7.24.4.1p3: the comparison of the n characters from each of two addresses on replies this, and leaves all as it was
 abbrev pub DiffersPlainly : Mem → (a b n : ℕ) → Reply → Type 0
-DiffersPlainly M a b n reply = (p q : Given) (notes : List Note) → rows_compared p q a b n (with_notes M notes) ≡ done reply (with_notes M notes)
+DiffersPlainly M a b n reply = (p q : Given) (notes : List Note) → rows_compared p q a b n (with_notes M notes) ≡ answer_now reply (with_notes M notes)

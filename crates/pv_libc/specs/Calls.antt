@@ -18,7 +18,7 @@ use Rattle.pv_libc.specs.declared.values.Reply.{Reply}
 use Rattle.pv_libc.specs.declared.values.Reply.TheVariants as reply
 use Rattle.pv_libc.specs.declared.values.Given.{Given}
 use Rattle.pv_libc.specs.declared.values.Offered.{Offered}
-use Rattle.pv_libc.specs.Steps.{Now, Did, done, next, with_notes}
+use Rattle.pv_libc.specs.Steps.{Now, Did, answer_now, next, with_notes}
 use Rattle.pv_libc.specs.Heap.{malloc, calloc, free, realloc}
 use Rattle.pv_libc.specs.Blocks.{memset, memcmp, copy}
 use Rattle.pv_libc.specs.Strings.{strlen, strcpy, compared_from}
@@ -55,29 +55,29 @@ abbrev pub pointer : List Arg → ℕ → Pointer
 pointer args i = pointer_in (value_in (slice_get args i))
 
 -- the memory model: what is noted last where a check of the pointer stops the call: the candidates of its name, as they stood before the whole call
-abbrev pub stopped : Mem → Prov → Note
-stopped M p = Stopped (stands M.table.pairs p).low (stands M.table.pairs p).high (pair_of p)
+abbrev pub stop_note : Mem → Prov → Note
+stop_note M p = Stopped (stands M.table.pairs p).low (stands M.table.pairs p).high (pair_of p)
 
 -- 6.5.2.2p7: an argument that is a pointer, with that note
 abbrev pub argument_at : List Arg → ℕ → Mem → Given
-argument_at args i M = record { pointer = pointer args i; stopped = stopped M (pointer args i).prov }
+argument_at args i M = record { pointer = pointer args i; stopped = stop_note M (pointer args i).prov }
 
 -- 7.21.6.1p2: an argument behind the format, with that note
 abbrev pub offer : Mem → Arg → Offered
-offer M x = record { arg = x; stopped = stopped M (pointer_in x.value).prov }
+offer M x = record { arg = x; stopped = stop_note M (pointer_in x.value).prov }
 
 -- 7.22.4.4p1, p5: the status is an `int`
 abbrev pub status : List Arg → ℕ → ℤ
 status args i = if fits_of Int (number args i) then number args i else pos 0
 
 -- 7.21.6.3p2: the text of the format and the arguments behind it
-abbrev pub printed : List Arg → Now → Did (List ℕ)
-printed args S =
+abbrev pub text_of_format : List Arg → Now → Did (List ℕ)
+text_of_format args S =
     printed_from (format_of S.memory (pointer args 0).prov) (record { within = within.Text; left = map (offer S.memory) (drop 1 args); text = [] }) S
 
 -- 7.21.6.3p3: how many bytes are printed
 abbrev pub printf : List Arg → Now → Did Reply
-printf args S = next (printed args S) (λ text T. done (reply.Value (value.Int (convert_of Int (pos (length text))))) T)
+printf args S = next (text_of_format args S) (λ text T. answer_now (reply.Value (value.Int (convert_of Int (pos (length text))))) T)
 
 -- 7.21.6.3, 7.22.3, 7.22.4, 7.24: each function with its arguments; `memcpy` (7.24.2.1p2) and `memmove` (7.24.2.2p2), as if by way of another array,
 -- differ in whether the arrays may share bytes
@@ -94,18 +94,18 @@ called_in library.Strlen a S = (strlen (argument_at a 0 S.memory) S)
 called_in library.Strcmp a S = (compared_from most (argument_at a 0 S.memory) (argument_at a 1 S.memory) 0 S)
 called_in library.Strcpy a S = (strcpy (argument_at a 0 S.memory) (argument_at a 1 S.memory) S)
 -- 7.22.4.4
-called_in library.Exit a S = done (reply.Exit (status a 0)) S
+called_in library.Exit a S = answer_now (reply.Exit (status a 0)) S
 -- 7.22.4.1
-called_in library.Abort a S = done reply.Abort S
+called_in library.Abort a S = answer_now reply.Abort S
 called_in library.Printf a S = printf a S
 
 -- 7.1.4: a call: its reply or why it stops, the memory that it leaves, and what happened within it, in order
-abbrev pub called : Library → List Arg → Mem → Did Reply
-called f args M = called_in f args (with_notes M [])
+abbrev pub reply_to_call : Library → List Arg → Mem → Did Reply
+reply_to_call f args M = called_in f args (with_notes M [])
 
 -- 7.21.6.3: only `printf` prints
 abbrev pub output_in : Library → List Arg → Now → List ℕ
-output_in library.Printf a S = result_unwrap_or (printed a S).answer []
+output_in library.Printf a S = result_unwrap_or (text_of_format a S).answer []
 output_in _ a S = []
 
 -- 7.21.6.3p2: the bytes that a call prints

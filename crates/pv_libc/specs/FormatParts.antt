@@ -13,7 +13,7 @@ use Rattle.pv_num.specs.declared.kinds.IntKind.{IntKind}
 use Rattle.pv_object.specs.Memory.{Mem}
 use Rattle.pv_object.specs.declared.values.Pointer.{Pointer}
 use Rattle.pv_inst.specs.declared.values.Info.{Info}
-use Rattle.pv_shadow.specs.Bytes.{read}
+use Rattle.pv_shadow.specs.Bytes.{bytes_from}
 use Rattle.std.specs.Option.{option_map_or, option_map}
 
 -- 7.21.6.1p8: behind `%`: `%`, `l`, `c`, `s`, `p`, and numbers
@@ -31,7 +31,7 @@ takes long k = if long then is_long k else is_int k
 
 -- 6.4.5p6: the literal in this instance
 abbrev pub literal_bytes : Mem → Option Info → List ℕ
-literal_bytes M x = option_map_or (λ (x : Info). before_zero (read M.bytes x.base x.size)) x []
+literal_bytes M x = option_map_or (λ (x : Info). before_zero (bytes_from M.bytes x.base x.size)) x []
 
 -- 7.1.1p1: a byte of the format and those behind it, none from the first 0 on
 abbrev pub unless_zero : Option ℕ → List ℕ → List ℕ

@@ -15,22 +15,22 @@ use Rattle.pv_inst.specs.declared.values.Miss.{Miss}
 use Rattle.pv_inst.specs.declared.values.Miss.TheVariants as miss
 use Rattle.pv_inst.specs.Table.{instance_at}
 use Rattle.pv_inst.specs.Infos.{info_of}
-use Rattle.pv_inst.specs.Use.{use_answer, settled, test_number}
+use Rattle.pv_inst.specs.Use.{use_answer, after_use, test_number}
 use Rattle.pv_object.specs.declared.values.Pointer.{Pointer}
 use Rattle.pv_object.specs.declared.values.Value.{Value}
 use Rattle.pv_object.specs.declared.values.Value.TheVariants as value
 use Rattle.pv_object.specs.declared.values.Stop.{Stop}
 use Rattle.pv_object.specs.declared.values.Stop.TheVariants.{NoMemory}
 use Rattle.pv_object.specs.Memory.{Mem}
-use Rattle.pv_object.specs.Access.{fault, chosen, is_null}
-use Rattle.pv_object.specs.Creating.{created, without}
-use Rattle.pv_object.specs.Copying.{copied}
+use Rattle.pv_object.specs.Access.{fault, first_survivor, is_null}
+use Rattle.pv_object.specs.Creating.{creation, without}
+use Rattle.pv_object.specs.Copying.{after_copy}
 use Rattle.pv_libc.specs.declared.values.Given.{Given}
 use Rattle.pv_libc.specs.declared.values.Note.TheVariants.{Made, Ended}
 use Rattle.pv_libc.specs.declared.values.Reply.{Reply}
 use Rattle.pv_libc.specs.declared.values.Reply.TheVariants as reply
-use Rattle.pv_libc.specs.Steps.{Now, Did, done, halted, next, noted, in_memory, in_table, about, used}
-use Rattle.pv_libc.specs.Blocks.{filled}
+use Rattle.pv_libc.specs.Steps.{Now, Did, answer_now, stop_now, next, with_more_notes, in_memory, in_table, about, use_notes}
+use Rattle.pv_libc.specs.Blocks.{after_filling}
 use Rattle.std.specs.Option.{option_map_or}
 
 -- 6.3.2.3p3: the null pointer
@@ -46,35 +46,35 @@ abbrev pub pointer_to : Mem → ℕ → Reply
 pointer_to M i = reply.Value (value.Pointer (record { address = option_map_or (λ (x : Info). x.base) (told_of M i) 0; prov = Inst i }))
 
 -- 7.22.3p1: the number of the new instance, or else what the call replies: null where the script denies it or live bytes are too many
-abbrev pub granted : Now → Result ℕ CreateError × Mem → Did (Result ℕ Reply)
-granted S ((Ok i), N) = done (Ok i) (noted (Made i ∷ []) (in_memory S N))
-granted S ((Err create.Denied), N) = done (Err (reply.Value null)) (in_memory S N)
-granted S ((Err create.NoMemory), N) = halted NoMemory (in_memory S N)
-granted S ((Err other), N) = done (Err (reply.Placement other)) (in_memory S N)
+abbrev pub grant_of : Now → Result ℕ CreateError × Mem → Did (Result ℕ Reply)
+grant_of S ((Ok i), N) = answer_now (Ok i) (with_more_notes (Made i ∷ []) (in_memory S N))
+grant_of S ((Err create.Denied), N) = answer_now (Err (reply.Value null)) (in_memory S N)
+grant_of S ((Err create.NoMemory), N) = stop_now NoMemory (in_memory S N)
+grant_of S ((Err other), N) = answer_now (Err (reply.Placement other)) (in_memory S N)
 
 -- 7.22.3p1: of no byte there is no allocation, and no request; an allocation is aligned for every object type
-abbrev pub requested : ℕ → Now → Did (Result ℕ Reply)
-requested size S =
-    if size == 0 then done (Err (reply.Value null)) S
-    else granted S (created S.memory (record { text = codes "@heap"; name = 1; size = size; align = 16; kind = Heap }))
+abbrev pub request_of_bytes : ℕ → Now → Did (Result ℕ Reply)
+request_of_bytes size S =
+    if size == 0 then answer_now (Err (reply.Value null)) S
+    else grant_of S (creation S.memory (record { text = codes "@heap"; name = 1; size = size; align = 16; kind = Heap }))
 
 -- 7.22.3.4p3: a pointer to the allocation, or a null pointer
-abbrev pub allocated : Result ℕ Reply → Now → Did Reply
-allocated (Err r) S = done r S
-allocated (Ok i) S = done (pointer_to S.memory i) S
+abbrev pub pointer_or_null : Result ℕ Reply → Now → Did Reply
+pointer_or_null (Err r) S = answer_now r S
+pointer_or_null (Ok i) S = answer_now (pointer_to S.memory i) S
 
 -- 7.22.3.4p2: space whose value is indeterminate
 abbrev pub malloc : ℕ → Now → Did Reply
-malloc size S = next (requested size S) allocated
+malloc size S = next (request_of_bytes size S) pointer_or_null
 
 -- 7.22.3.2p2, p3: a pointer to the allocation, whose bytes are 0, or a null pointer
-abbrev pub cleared : Result ℕ Reply → Now → Did Reply
-cleared (Err r) S = done r S
-cleared (Ok i) S = done (pointer_to S.memory i) (in_memory S (option_map_or (λ (x : Info). filled S.memory x.base x.size 0) (told_of S.memory i) S.memory))
+abbrev pub pointer_to_zeros : Result ℕ Reply → Now → Did Reply
+pointer_to_zeros (Err r) S = answer_now r S
+pointer_to_zeros (Ok i) S = answer_now (pointer_to S.memory i) (in_memory S (option_map_or (λ (x : Info). after_filling S.memory x.base x.size 0) (told_of S.memory i) S.memory))
 
 -- 7.22.3.2p2: the product is exact
 abbrev pub calloc : ℕ → ℕ → Now → Did Reply
-calloc count size S = next (requested (count * size) S) cleared
+calloc count size S = next (request_of_bytes (count * size) S) pointer_to_zeros
 
 -- 7.22.3.3p2, 7.22.3.5p3: why a pointer is none to an allocation that is live
 abbrev pub block_stop : Clause → Miss → Stop
@@ -94,14 +94,14 @@ the_block c M (Some i) = block_in c i (told_of M i)
 
 -- 7.22.3.3p2: the allocation, by what the block test found
 abbrev pub block_answer : Clause → Mem → Pointer → Result Tried Miss → Result ℕ Stop
-block_answer c M p (Ok tried) = the_block c M (chosen (stands M.table.pairs p.prov) tried)
+block_answer c M p (Ok tried) = the_block c M (first_survivor (stands M.table.pairs p.prov) tried)
 block_answer c M p (Err m) = Err (block_stop c m)
 
 -- 7.22.3.3p2: the allocation, with the use of the pointer that the test makes (the memory model)
 abbrev pub block_by : Clause → Given → Now → Result Tried Miss → Did ℕ
 block_by c g S found = record {
   answer = block_answer c S.memory g.pointer found;
-  after = noted (used found (test_number (Block g.pointer.address))) (in_table S (settled S.memory.table g.pointer.prov found));
+  after = with_more_notes (use_notes found (test_number (Block g.pointer.address))) (in_table S (after_use S.memory.table g.pointer.prov found));
 }
 
 -- 7.22.3.3p2, 7.22.3.5p3: the allocation that a pointer to its first byte means
@@ -109,27 +109,27 @@ abbrev pub block : Clause → Given → Now → Did ℕ
 block c g S = about g.stopped (block_by c g S (use_answer S.memory.table g.pointer.prov (Block g.pointer.address)))
 
 -- 7.22.3.3p2: the allocation ends
-abbrev pub freed : ℕ → Now → Did Reply
-freed i S = done reply.Nothing (noted (Ended i ∷ []) (in_memory S (without S.memory i)))
+abbrev pub end_of_block : ℕ → Now → Did Reply
+end_of_block i S = answer_now reply.Nothing (with_more_notes (Ended i ∷ []) (in_memory S (without S.memory i)))
 
 -- 7.22.3.3p2: of a null pointer nothing; else the allocation that it points to is deallocated
 abbrev pub free : Given → Now → Did Reply
-free g S = if is_null g.pointer then done reply.Nothing S else next (block clause.Freeing g S) freed
+free g S = if is_null g.pointer then answer_now reply.Nothing S else next (block clause.Freeing g S) end_of_block
 
 -- 7.22.3.5p2: the first bytes that both have are copied whole
-abbrev pub both : Option Info → Option Info → Mem → Mem
-both (Some old) (Some new) N = copied N new.base old.base (min old.size new.size)
-both _ _ N = N
+abbrev pub after_block_copy : Option Info → Option Info → Mem → Mem
+after_block_copy (Some old) (Some new) N = after_copy N new.base old.base (min old.size new.size)
+after_block_copy _ _ N = N
 
 -- 7.22.3.5p2, p4: a pointer to the new allocation, and the old one ends; or a null pointer, and the old one stays
-abbrev pub moved : ℕ → Result ℕ Reply → Now → Did Reply
-moved i (Err r) S = done r S
-moved i (Ok j) S = done (pointer_to S.memory j) (noted (Ended i ∷ []) (in_memory S (without (both (told_of S.memory i) (told_of S.memory j) S.memory) i)))
+abbrev pub reply_after_move : ℕ → Result ℕ Reply → Now → Did Reply
+reply_after_move i (Err r) S = answer_now r S
+reply_after_move i (Ok j) S = answer_now (pointer_to S.memory j) (with_more_notes (Ended i ∷ []) (in_memory S (without (after_block_copy (told_of S.memory i) (told_of S.memory j) S.memory) i)))
 
 -- 7.22.3.5p3, p4: the request is made while the old allocation is live; where none is had, it stays. For no byte it stays, too
-abbrev pub resized : ℕ → ℕ → Now → Did Reply
-resized size i S = if size == 0 then done (reply.Value null) S else next (requested size S) (moved i)
+abbrev pub resize_of : ℕ → ℕ → Now → Did Reply
+resize_of size i S = if size == 0 then answer_now (reply.Value null) S else next (request_of_bytes size S) (reply_after_move i)
 
 -- 7.22.3.5p2, p3: as `malloc` for a null pointer; else the allocation that it points to gets this size
 abbrev pub realloc : Given → ℕ → Now → Did Reply
-realloc g size S = if is_null g.pointer then malloc size S else next (block clause.Reallocating g S) (resized size)
+realloc g size S = if is_null g.pointer then malloc size S else next (block clause.Reallocating g S) (resize_of size)

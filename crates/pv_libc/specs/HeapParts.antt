@@ -3,7 +3,7 @@ use Rattle.pv_inst.specs.Placing.{Request}
 use Rattle.pv_inst.specs.declared.values.Kind.TheVariants.{Heap}
 use Rattle.pv_inst.specs.declared.values.Info.{Info}
 use Rattle.std.specs.Prelude.{codes, ℕ, Option}
-use Rattle.pv_libc.specs.Blocks.{filled}
+use Rattle.pv_libc.specs.Blocks.{after_filling}
 use Rattle.pv_object.specs.Memory.{Mem}
 use Rattle.std.specs.Option.{option_map_or}
 
@@ -16,5 +16,5 @@ abbrev pub base_of : Option Info → ℕ
 base_of x = option_map_or (λ (x : Info). x.base) x 0
 
 -- 7.22.3.2p2: all bytes are 0
-abbrev pub zeroed : ℕ → Option Info → Mem → Mem
-zeroed i x N = option_map_or (λ (x : Info). filled N x.base x.size 0) x N
+abbrev pub with_zeros : ℕ → Option Info → Mem → Mem
+with_zeros i x N = option_map_or (λ (x : Info). after_filling N x.base x.size 0) x N

@@ -1,6 +1,6 @@
 -- A bridge: what functions answer that do a part of what Strings says.
 use Rattle.std.specs.Prelude.{if◌then◌else◌, not, pos, ◌==◌, ℕ, ◌∷◌, [], List, Option, Result}
-use Rattle.pv_libc.specs.Steps.{Now, Did, done}
+use Rattle.pv_libc.specs.Steps.{Now, Did, answer_now}
 use Rattle.pv_libc.specs.Blocks.{sign_of}
 use Rattle.pv_libc.specs.declared.values.Reply.TheVariants as reply
 use Rattle.pv_libc.specs.declared.values.Reply.{Reply}
@@ -18,8 +18,8 @@ use Rattle.pv_libc.specs.Characters.{most}
 -- 7.24.4p1, 7.24.4.2: of two characters, the sign where they differ, 0 where both are 0, and else what the rest answers
 abbrev pub compared_by : ℕ → ℕ → Now → Did Reply → Did Reply
 compared_by a b S rest =
-    if not (a == b) then done (reply.Value (value.Int (sign_of a b))) S
-    else (if a == 0 then done (reply.Value (value.Int (pos 0))) S else rest)
+    if not (a == b) then answer_now (reply.Value (value.Int (sign_of a b))) S
+    else (if a == 0 then answer_now (reply.Value (value.Int (pos 0))) S else rest)
 
 -- the memory model: a use of a name that stood for two before, a pair of candidates
 abbrev pub pair_used : Option ℕ → Tried → ℕ → List Note

@@ -7,7 +7,7 @@ ghost use Rattle.pv_object.specs.Later.{IsLater};
 ghost use Rattle.pv_object.specs.Copying.{with_bytes};
 ghost use Rattle.pv_object.specs.declared.values.Value.TheVariants as value;
 ghost use Rattle.pv_libc.specs.declared.values.Reply.TheVariants as reply;
-ghost use Rattle.pv_libc.specs.Blocks.{filled, share, plain_byte, copy, memset, memcmp, difference};
+ghost use Rattle.pv_libc.specs.Blocks.{after_filling, share, plain_byte, copy, memset, memcmp, difference};
 ghost use Rattle.pv_libc.specs.Characters.{characters_from};
 ghost use Rattle.pv_libc.specs.Steps.{with_notes};
 ghost use Rattle.pv_libc.specs.Answers.{OrNoMemory, worth};
@@ -55,7 +55,7 @@ pub(crate) fn within(memory: &Memory, at: &Reach, i: u64) -> Reach
 #[tactic(auto, using(crate::proofs::Filling::all_filled))]
 pub(crate) fn fill(memory: &mut Memory, at: &Reach, n: u64, v: u8)
     requires { IsReach memory.old.table at.now n }
-    ensures { memory.new ≡ filled memory.old at.now.address n v }
+    ensures { memory.new ≡ after_filling memory.old at.now.address n v }
 {
     memory.fill_bytes(at, n, plain_byte(v));
 }

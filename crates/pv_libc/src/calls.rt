@@ -11,7 +11,7 @@ ghost use Rattle.pv_libc.specs.Steps.{with_notes};
 ghost use Rattle.pv_libc.specs.Answers.{OrNoMemory, worth, behind};
 ghost use Rattle.pv_libc.specs.Makings.{AreLive, UnlessNoMemory};
 ghost use Rattle.pv_library.specs.declared.library.Library.TheVariants as library;
-ghost use Rattle.pv_libc.specs.Calls.{number, size, status, pointer_in, stopped, argument_at, offer, printed, called, called_in, output, output_in};
+ghost use Rattle.pv_libc.specs.Calls.{number, size, status, pointer_in, stop_note, argument_at, offer, text_of_format, reply_to_call, called_in, output, output_in};
 
 use crate::blocks::{copy, memcmp, memset};
 use crate::heap::{calloc, free, malloc, realloc};
@@ -69,7 +69,7 @@ fn pointer_in(value: Value) -> Pointer
 /// What is noted last where a check of a pointer stops the call.
 fn stopped(memory: &Memory, p: Prov) -> Note
     requires { IsMadeIn memory.now.table p }
-    ensures { result ≡ stopped memory.now p }
+    ensures { result ≡ stop_note memory.now p }
 {
     let stands = memory.instances().stands(p);
     let pair = match p {
@@ -125,7 +125,7 @@ fn printed_text(
     args: &[Arg],
 ) -> Result<Vec<u8>, Stop>
     requires { All (λ a. IsMadeValue memory.old.table a.value) args.now }
-    ensures { OrNoMemory (worth (λ v. v.items) result) (with_notes memory.new notes.new.items) (printed args.now (with_notes memory.old notes.old.items)) }
+    ensures { OrNoMemory (worth (λ v. v.items) result) (with_notes memory.new notes.new.items) (text_of_format args.now (with_notes memory.old notes.old.items)) }
 {
     let given = argument_at(memory, args, 0);
     let Ok(format) = format_of(alloc, memory, given.pointer.prov) else {
@@ -240,10 +240,10 @@ pub fn call(
     requires named { 1 < length names.now }
     requires heap { text_of names.now 1 ≡ codes "@heap" }
     requires made { All (λ a. IsMadeValue m.old.table a.value) args.now }
-    ensures answer { OrNoMemory result (with_notes m.new notes.new.items) (behind notes.old.items (called f args.now m.old)) }
+    ensures answer { OrNoMemory result (with_notes m.new notes.new.items) (behind notes.old.items (reply_to_call f args.now m.old)) }
     ensures out { OnOk result (out.new.items ≡ out.old.items ++ output f args.now m.old) }
     ensures kept { OnErr result (out.new.items ≡ out.old.items) }
-    ensures makings { AreLive (called f args.now m.old).after.memory (called f args.now m.old).after.notes }
+    ensures makings { AreLive (reply_to_call f args.now m.old).after.memory (reply_to_call f args.now m.old).after.notes }
     ensures live { UnlessNoMemory result (AreLive m.new notes.old.items → AreLive m.new notes.new.items) }
 {
     let alloc = *out.allocator();

@@ -3,7 +3,7 @@ ghost use Rattle.std.specs.Prelude.{◌≡◌, ◌<◌, length, IfOk};
 ghost use Rattle.pv_inst.specs.Table.{IsMadeIn};
 ghost use Rattle.pv_object.specs.Reaching.{IsReach};
 ghost use Rattle.pv_object.specs.Later.{IsLater};
-ghost use Rattle.pv_libc.specs.Steps.{further, with_notes};
+ghost use Rattle.pv_libc.specs.Steps.{bytes_further, with_notes};
 ghost use Rattle.pv_libc.specs.Answers.{OrNoMemory, worth};
 ghost use Rattle.pv_libc.specs.Characters.{character_in, character_at, most, string_at};
 
@@ -55,7 +55,7 @@ pub(crate) fn character_in(
 /// The pointer so many bytes further on.
 #[inline(always)]
 pub(crate) fn further(given: Given, i: u64) -> Given
-    ensures { result ≡ further given i }
+    ensures { result ≡ bytes_further given i }
 {
     Given {
         pointer: Pointer {

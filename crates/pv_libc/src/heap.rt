@@ -4,17 +4,17 @@ ghost use Rattle.pv_script.specs.Names.{name_at as text_of};
 ghost use Rattle.pv_inst.specs.Table.{IsMadeIn};
 ghost use Rattle.pv_inst.specs.Answers.{IsLive};
 ghost use Rattle.pv_inst.specs.Infos.{info_of};
-ghost use Rattle.pv_inst.specs.Use.{untried, use_answer, settled};
+ghost use Rattle.pv_inst.specs.Use.{empty_use, use_answer, after_use};
 ghost use Rattle.pv_inst.specs.declared.values.Test.TheVariants.{Block};
 ghost use Rattle.pv_object.specs.Memory.{with_table};
 ghost use Rattle.pv_object.specs.Creating.{without};
 ghost use Rattle.pv_libc.specs.declared.values.Note.TheVariants.{Ended};
-ghost use Rattle.pv_object.specs.Access.{chosen};
+ghost use Rattle.pv_object.specs.Access.{first_survivor};
 ghost use Rattle.pv_libc.specs.Steps.{with_notes};
 ghost use Rattle.pv_libc.specs.Answers.{OrNoMemory, worth};
 ghost use Rattle.pv_object.specs.Answers.{without_use, tried_in, survivors};
-ghost use Rattle.pv_libc.specs.Heap.{told_of, block_stop, block_answer, pointer_to, requested, block, malloc, calloc, free, realloc, resized, both};
-ghost use Rattle.pv_libc.specs.Blocks.{filled};
+ghost use Rattle.pv_libc.specs.Heap.{told_of, block_stop, block_answer, pointer_to, request_of_bytes, block, malloc, calloc, free, realloc, resize_of, after_block_copy};
+ghost use Rattle.pv_libc.specs.Blocks.{after_filling};
 
 use crate::blocks::fill;
 use crate::notes::{note_use, stopped_after};
@@ -58,7 +58,7 @@ fn requested(
 ) -> Result<Result<u64, Reply>, Stop>
     requires named { 1 < length names.now }
     requires heap { text_of names.now 1 ≡ codes "@heap" }
-    ensures answer { OrNoMemory result (with_notes memory.new notes.new.items) (requested size (with_notes memory.old notes.old.items)) }
+    ensures answer { OrNoMemory result (with_notes memory.new notes.new.items) (request_of_bytes size (with_notes memory.old notes.old.items)) }
     ensures kept { OnOk result ((k : ℕ) → IsLive memory.old.table.instances k → IsLive memory.new.table.instances k) }
 {
     if size == 0 {
@@ -122,7 +122,7 @@ pub(crate) fn calloc(
 
 /// The whole of an instance, as a place.
 pub(crate) fn whole(i: u64, x: Info) -> Reach
-    ensures { result ≡ record { inst = i; offset = 0; address = x.base; tried = untried } }
+    ensures { result ≡ record { inst = i; offset = 0; address = x.base; tried = empty_use } }
 {
     Reach {
         inst: i,
@@ -147,7 +147,7 @@ fn block_stop(clause: Clause, miss: Miss) -> Stop
 
 /// Of the survivors the low one.
 fn chosen(stands: Stands, tried: Tried) -> Option<u64>
-    ensures { result ≡ chosen stands tried }
+    ensures { result ≡ first_survivor stands tried }
 {
     if tried.low { stands.low } else { stands.high }
 }
@@ -158,7 +158,7 @@ fn block(memory: &mut Memory, clause: Clause, p: Pointer) -> Result<(u64, Tried)
     requires { IsMadeIn memory.old.table p.prov }
     ensures answer { worth (λ r. r.0) (without_use result) ≡ block_answer clause memory.old p (use_answer memory.old.table p.prov (Block p.address)) }
     ensures tried { tried_in (λ r. r.1) result ≡ survivors (use_answer memory.old.table p.prov (Block p.address)) }
-    ensures state { memory.new ≡ with_table memory.old (settled memory.old.table p.prov (use_answer memory.old.table p.prov (Block p.address))) }
+    ensures state { memory.new ≡ with_table memory.old (after_use memory.old.table p.prov (use_answer memory.old.table p.prov (Block p.address))) }
     ensures live { IfOk result (λ r. IsLive memory.new.table.instances r.0) }
 {
     let stands = memory.instances().stands(p.prov);
@@ -238,7 +238,7 @@ pub(crate) fn free(memory: &mut Memory, notes: &mut Vec<Note>, given: Given) -> 
 /// The first bytes that both allocations have are copied from the old one.
 #[tactic(auto, using(crate::proofs::Reaches::whole_reach))]
 fn both(memory: &mut Memory, i: u64, j: u64)
-    ensures state { memory.new ≡ both (told_of memory.old i) (told_of memory.old j) memory.old }
+    ensures state { memory.new ≡ after_block_copy (told_of memory.old i) (told_of memory.old j) memory.old }
     ensures table { memory.new.table ≡ memory.old.table }
 {
     if let Some(old) = memory.instances().info(i) {
@@ -283,7 +283,7 @@ fn resized(
     requires named { 1 < length names.now }
     requires heap { text_of names.now 1 ≡ codes "@heap" }
     requires live { IsLive memory.old.table.instances i }
-    ensures { OrNoMemory result (with_notes memory.new notes.new.items) (resized size i (with_notes memory.old notes.old.items)) }
+    ensures { OrNoMemory result (with_notes memory.new notes.new.items) (resize_of size i (with_notes memory.old notes.old.items)) }
 {
     if size == 0 {
         return Ok(Reply::Value(NULL));

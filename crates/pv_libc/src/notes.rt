@@ -4,7 +4,7 @@ ghost use Rattle.pv_inst.specs.Table.{IsMadeIn};
 ghost use Rattle.pv_inst.specs.Use.{test_number};
 ghost use Rattle.pv_object.specs.Reaching.{IsReach};
 ghost use Rattle.pv_object.specs.Later.{IsLater};
-ghost use Rattle.pv_libc.specs.Steps.{used, told, reached, with_notes};
+ghost use Rattle.pv_libc.specs.Steps.{use_notes, with_exposures, reach_for, with_notes};
 ghost use Rattle.pv_libc.specs.Answers.{OrNoMemory, StopsSo};
 
 use crate::values::{Given, Note};
@@ -14,7 +14,7 @@ use pv_prov::NoMemory;
 
 /// Notes what a use by this test found, where its name stood for two.
 pub(crate) fn note_use(notes: &mut Vec<Note>, test: Test, tried: Tried) -> Result<(), NoMemory>
-    ensures { OnOk result (notes.new.items ≡ notes.old.items ++ used (Ok tried) (test_number test)) }
+    ensures { OnOk result (notes.new.items ≡ notes.old.items ++ use_notes (Ok tried) (test_number test)) }
 {
     if tried.pair.is_none() {
         return Ok(());
@@ -30,7 +30,7 @@ pub(crate) fn note_use(notes: &mut Vec<Note>, test: Test, tried: Tried) -> Resul
 
 /// The call stops: what the use before found by this test is noted, and last this.
 pub(crate) fn stopped_after(notes: &mut Vec<Note>, test: Test, by: Stopped, last: Note) -> Stop
-    ensures { StopsSo result notes.new.items by.stop (notes.old.items ++ used (Ok by.tried) (test_number test) ++ last ∷ []) }
+    ensures { StopsSo result notes.new.items by.stop (notes.old.items ++ use_notes (Ok by.tried) (test_number test) ++ last ∷ []) }
 {
     if note_use(notes, test, by.tried).is_err() {
         return Stop::NoMemory;
@@ -43,7 +43,7 @@ pub(crate) fn stopped_after(notes: &mut Vec<Note>, test: Test, by: Stopped, last
 
 /// Notes what became exposed.
 pub(crate) fn note_exposed(memory: &mut Memory, notes: &mut Vec<Note>) -> Result<(), NoMemory>
-    ensures state { OnOk result (with_notes memory.new notes.new.items ≡ told (with_notes memory.old notes.old.items)) }
+    ensures state { OnOk result (with_notes memory.new notes.new.items ≡ with_exposures (with_notes memory.old notes.old.items)) }
     ensures later { IsLater memory.old.table memory.new.table }
 {
     while let Some(i) = memory.next_exposed() {
@@ -65,7 +65,7 @@ pub(crate) fn reached(
     n: u64,
 ) -> Result<Reach, Stop>
     requires { IsMadeIn memory.old.table given.pointer.prov }
-    ensures answer { OrNoMemory result (with_notes memory.new notes.new.items) (reached by write given n (with_notes memory.old notes.old.items)) }
+    ensures answer { OrNoMemory result (with_notes memory.new notes.new.items) (reach_for by write given n (with_notes memory.old notes.old.items)) }
     ensures later { IsLater memory.old.table memory.new.table }
     ensures within { IfOk result (λ r. IsReach memory.new.table r n) }
 {

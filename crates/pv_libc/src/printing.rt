@@ -9,7 +9,7 @@ ghost use Rattle.pv_libc.specs.Steps.{with_notes};
 ghost use Rattle.pv_libc.specs.Answers.{OrNoMemory, worth};
 ghost use Rattle.pv_libc.specs.Arguments.{number_text, pointer_text, written_kind, number_of, string_of, address_of};
 ghost use Rattle.pv_libc.specs.FormatParts.{takes};
-ghost use Rattle.pv_libc.specs.Printing.{address_done, converted, piece_done, printed_from, before_zero, format_of, format_stop};
+ghost use Rattle.pv_libc.specs.Printing.{address_done, conversion_text, piece_done, printed_from, before_zero, format_of, format_stop};
 ghost use Rattle.pv_libc.specs.declared.formats.Within.TheVariants as within;
 
 use crate::characters::string_at;
@@ -183,7 +183,7 @@ fn converted(
     x: Offered,
 ) -> Result<Vec<u8>, Stop>
     requires { IsMadeValue memory.old.table x.arg.value }
-    ensures answer { OrNoMemory (worth (λ v. v.items) result) (with_notes memory.new notes.new.items) (converted conversion x (with_notes memory.old notes.old.items)) }
+    ensures answer { OrNoMemory (worth (λ v. v.items) result) (with_notes memory.new notes.new.items) (conversion_text conversion x (with_notes memory.old notes.old.items)) }
     ensures later { IsLater memory.old.table memory.new.table }
 {
     match conversion {

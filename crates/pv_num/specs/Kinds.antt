@@ -61,35 +61,35 @@ rank ULLong = 5
 rank _ = 1
 
 -- 6.3.1.1p2: the integer promotions: on this target `int` has all values of the kinds of lesser rank
-abbrev pub promoted : IntKind → IntKind
-promoted BoolKind = Int
-promoted Char = Int
-promoted SChar = Int
-promoted UChar = Int
-promoted Short = Int
-promoted UShort = Int
-promoted k = k
+abbrev pub promotion_of : IntKind → IntKind
+promotion_of BoolKind = Int
+promotion_of Char = Int
+promotion_of SChar = Int
+promotion_of UChar = Int
+promotion_of Short = Int
+promotion_of UShort = Int
+promotion_of k = k
 
 -- 6.2.5p9: 2 to the width
 abbrev pub modulus_of : IntKind → ℕ
 modulus_of k = 2 ^ width k
 
 -- 6.2.6.2p2: two's complement; the least member of a kind
-abbrev pub least : IntKind → ℤ
-least k = if is_signed k then neg_ℤ (pos (modulus_of k / 2)) else pos 0
+abbrev pub least_member : IntKind → ℤ
+least_member k = if is_signed k then neg_ℤ (pos (modulus_of k / 2)) else pos 0
 
 -- its greatest member; 6.2.5p2: the members of `_Bool` are 0 and 1
-abbrev pub greatest : IntKind → ℤ
-greatest BoolKind = pos 1
-greatest k = if is_signed k then pos (modulus_of k / 2 - 1) else pos (modulus_of k - 1)
+abbrev pub greatest_member : IntKind → ℤ
+greatest_member BoolKind = pos 1
+greatest_member k = if is_signed k then pos (modulus_of k / 2 - 1) else pos (modulus_of k - 1)
 
 -- 6.2.5: n is a member of the kind
 abbrev pub Fits : IntKind → ℤ → Type 0
-Fits k n = (least k ≤ℤ n) × (n ≤ℤ greatest k)
+Fits k n = (least_member k ≤ℤ n) × (n ≤ℤ greatest_member k)
 
 -- 6.2.5: whether n is a member of the kind
 abbrev pub fits_of : IntKind → ℤ → Bool
-fits_of k n = int_le (least k) n && int_le n (greatest k)
+fits_of k n = int_le (least_member k) n && int_le n (greatest_member k)
 
 -- 6.2.6.2p2: n modulo 2 ^ width, which is the two's complement bits of n as a number
 abbrev pub bits_of : IntKind → ℤ → ℕ

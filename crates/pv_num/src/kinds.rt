@@ -1,6 +1,6 @@
 // Integer kinds: what fits them, and conversion to them.
 ghost use Rattle.std.specs.Prelude.{◌≡◌, ◌↔◌, ◌<◌, pos, IsTrue};
-ghost use Rattle.pv_num.specs.Kinds.{least, greatest, Fits, fits_of, convert_of, modulus_of, is_signed, width, promoted, bits_of, from_bits_of, is_character_kind};
+ghost use Rattle.pv_num.specs.Kinds.{least_member, greatest_member, Fits, fits_of, convert_of, modulus_of, is_signed, width, promotion_of, bits_of, from_bits_of, is_character_kind};
 ghost use Rattle.pv_num.specs.Operands.{IsConversion, IsConvertible};
 
 /// An integer type of the target (6.2.5), without its qualifiers.
@@ -89,7 +89,7 @@ pub fn is_signed(kind: IntKind) -> bool
 
 /// The kind that an integer is promoted to (6.3.1.1p2).
 pub fn promoted(kind: IntKind) -> IntKind
-    ensures { result ≡ promoted kind }
+    ensures { result ≡ promotion_of kind }
 {
     match kind {
         IntKind::Bool | IntKind::Char | IntKind::SChar | IntKind::UChar => IntKind::Int,
@@ -145,7 +145,7 @@ pub(crate) fn from_bits(kind: IntKind, bits: u64) -> i128
 
 /// The least member of the kind.
 fn least(kind: IntKind) -> i128
-    ensures { result ≡ least kind }
+    ensures { result ≡ least_member kind }
 {
     match kind {
         IntKind::Bool
@@ -163,7 +163,7 @@ fn least(kind: IntKind) -> i128
 
 /// The greatest member of the kind.
 fn greatest(kind: IntKind) -> i128
-    ensures { result ≡ greatest kind }
+    ensures { result ≡ greatest_member kind }
 {
     match kind {
         IntKind::Bool => 1,

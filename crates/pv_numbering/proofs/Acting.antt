@@ -9,7 +9,7 @@ use Rattle.pv_world.specs.Telling.{Told, verdict_of, fault_of, fault_told}
 use Rattle.pv_world.specs.Doing.{Done, Answers, Fails, Breaks}
 use Rattle.pv_world.specs.ObjectParts.{with_bytes}
 use Rattle.pv_eval.specs.States.{Setting, State, Stopped, Res, Stops}
-use Rattle.pv_eval.specs.Acting.{noted, noted_with, pair_count, settling, by_side, answered, acted}
+use Rattle.pv_eval.specs.Acting.{after_telling, noted_with, pair_count, settling, by_side, answer_with_sides, after_doing}
 use Rattle.pv_eval.specs.ActingParts.{one_kept, keeps_both}
 use Rattle.pv_numbering.proofs.Alike.{with_types, AlikeWorth, AlikeWorld, AlikeState, AlikeRes}
 use Rattle.pv_numbering.proofs.Doing.{AlikeDone, Alikes}
@@ -22,11 +22,11 @@ module _ (m m' : Known) where
   abbrev AlikeResult : Res Worth → Res Worth → Type 0
   AlikeResult r r' = AlikeRes m m' (AlikeWorth m m') r r'
 
-  noted-alike : (w : World) (z : Store) (t : Told) (s : State) (y : Store) → Alikes m m' w z → AlikeState m m' (noted w t s) (noted (with_bytes w z) t (moment_at s y))
+  noted-alike : (w : World) (z : Store) (t : Told) (s : State) (y : Store) → Alikes m m' w z → AlikeState m m' (after_telling w t s) (after_telling (with_bytes w z) t (moment_at s y))
   noted-alike w z t s y h = record { bytes = z; is = refl; alike = h }
 
   sided-alike : (c : Bool) (k : ℕ) (high : Bool) (w : World) (z : Store) (t : Told) (s : State) (y : Store) → Alikes m m' w z
-      → AlikeState m m' (noted (if c then one_kept w k high else w) t s) (noted (if c then one_kept (with_bytes w z) k high else with_bytes w z) t (moment_at s y))
+      → AlikeState m m' (after_telling (if c then one_kept w k high else w) t s) (after_telling (if c then one_kept (with_bytes w z) k high else with_bytes w z) t (moment_at s y))
   sided-alike true k high w z t s y h = record { bytes = z; is = refl; alike = h }
   sided-alike false k high w z t s y h = record { bytes = z; is = refl; alike = h }
 
@@ -40,7 +40,7 @@ module _ (m m' : Known) where
   either_side false r r' x x' h g = g
 
   answered-alike : (o : Option (List Bool)) (v v' : Worth) (line : ℕ) (w : World) (z : Store) (t : Told) (s : State) (y : Store) → AlikeWorth m m' v v' → Alikes m m' w z
-      → AlikeResult (answered o v line w t s) (answered o v' line (with_bytes w z) t (moment_at s y))
+      → AlikeResult (answer_with_sides o v line w t s) (answer_with_sides o v' line (with_bytes w z) t (moment_at s y))
   answered-alike None v v' line w z t s y g h = (g, noted-alike w z t s y h)
   answered-alike (Some sides) v v' line w z t s y g h =
       either_side (nat_lt (pair_count s.world) (pair_count w)) _ _ _ _ (by_side-alike (slice_get sides (pair_count s.world)) v v' line w z t s y g h) (g, noted-alike w z t s y h)
@@ -58,9 +58,9 @@ module _ (b : Setting) (m' : Known) where
       (λ j. Stopped (e j) line, record { bytes = g.bytes; is = refl; alike = g.alike }))
 
   -- an operation of a node, as it changes the state
-  pub acted-alike : (line : ℕ) (d d' : Done) (s : State) (x : Store) → AlikeDone b.types m' d d' → AlikeResult b.types m' (acted b line d s) (acted (with_types b m') line d' (moment_at s x))
+  pub acted-alike : (line : ℕ) (d d' : Done) (s : State) (x : Store) → AlikeDone b.types m' d d' → AlikeResult b.types m' (after_doing b line d s) (after_doing (with_types b m') line d' (moment_at s x))
   acted-alike line (Answers v w t) (Answers v' w' t') s x h =
-      in_place b.types m' (λ u t'. AlikeResult b.types m' (answered b.sides v line w t s) (answered b.sides v' line u t' (moment_at s x))) w w' t t' h.1 h.2
+      in_place b.types m' (λ u t'. AlikeResult b.types m' (answer_with_sides b.sides v line w t s) (answer_with_sides b.sides v' line u t' (moment_at s x))) w w' t t' h.1 h.2
       (answered-alike b.types m' b.sides v v' line w h.1.bytes t s x h.0 h.1.alike)
   acted-alike line (Fails y p w t) (Fails y' p' w' t') s x h =
       ends-alike line y y' w w' t t' (fault_told s.world.memory y p) (fault_told s.world.memory y' p') s x h.0 (λ j. fault_told s.world.memory (h.0 j) (h.1 j)) h.2 h.3

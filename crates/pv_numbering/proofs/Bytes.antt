@@ -7,8 +7,8 @@ use Rattle.std.specs.FinMap.{get, insert, remove, get-insert, get-remove}
 use Rattle.pv_types.specs.Known.{Known}
 use Rattle.pv_prov.specs.declared.names.Prov.{Prov}
 use Rattle.pv_shadow.specs.declared.byte.Byte.{Byte}
-use Rattle.pv_shadow.specs.Bytes.{Store, blank, read, written, spread, cleared}
-use Rattle.pv_shadow.specs.Whole.{mark_at, plain, pointed}
+use Rattle.pv_shadow.specs.Bytes.{Store, blank_byte, bytes_from, with_bytes_at, with_blanks, without_bytes}
+use Rattle.pv_shadow.specs.Whole.{mark_at, number_bytes, pointer_bytes}
 use Rattle.pv_numbering.proofs.Marks.{AcceptedAlike, AlikeMarks, AlikeByte, AlikeBytes, AlikeAt, AlikeStores}
 
 -- 6.5p6: the numbers of a type by which two stores mark their bytes
@@ -37,31 +37,31 @@ module _ (m m' : Known) where
   pub unmarked : (v : Option ℕ) (p : Prov) (j : Option ℕ) → AlikeByte m m' (record { value = v; prov = p; index = j; mark = None }) (record { value = v; prov = p; index = j; mark = None })
   unmarked v p j = record { value = refl; prov = refl; index = refl; mark = tt }
 
-  alike_blank : AlikeByte m m' blank blank
+  alike_blank : AlikeByte m m' blank_byte blank_byte
   alike_blank = record { value = refl; prov = refl; index = refl; mark = tt }
 
-  or_blank : (o o' : Option Byte) → AlikeAt m m' o o' → AlikeByte m m' (unwrap_or o blank) (unwrap_or o' blank)
+  or_blank : (o o' : Option Byte) → AlikeAt m m' o o' → AlikeByte m m' (unwrap_or o blank_byte) (unwrap_or o' blank_byte)
   or_blank None None h = alike_blank
   or_blank (Some x) (Some x') h = h
   or_blank None (Some x') h = absurd h
   or_blank (Some x) None h = absurd h
 
-  pub alike_read : (b b' : Store) (a n : ℕ) → AlikeStores m m' b b' → AlikeBytes m m' (read b a n) (read b' a n)
-  unfolding read
+  pub alike_read : (b b' : Store) (a n : ℕ) → AlikeStores m m' b b' → AlikeBytes m m' (bytes_from b a n) (bytes_from b' a n)
+  unfolding bytes_from
   alike_read b b' a zero h = tt
   alike_read b b' a (suc n) h = (or_blank (get b a) (get b' a) (h a), alike_read b b' (a + 1) n h)
 
-  pub alike_written : (b b' : Store) (a : ℕ) (xs xs' : List Byte) → AlikeStores m m' b b' → AlikeBytes m m' xs xs' → AlikeStores m m' (written b a xs) (written b' a xs')
+  pub alike_written : (b b' : Store) (a : ℕ) (xs xs' : List Byte) → AlikeStores m m' b b' → AlikeBytes m m' xs xs' → AlikeStores m m' (with_bytes_at b a xs) (with_bytes_at b' a xs')
   alike_written b b' a [] [] h g = h
   alike_written b b' a (x ∷ xs) (x' ∷ xs') h g = alike_written (insert b a x) (insert b' a x') (a + 1) xs xs' (alike_insert b b' a x x' h g.0) g.1
   alike_written b b' a [] (x' ∷ xs') h g = absurd g
   alike_written b b' a (x ∷ xs) [] h g = absurd g
 
-  pub alike_spread : (b b' : Store) (a n : ℕ) → AlikeStores m m' b b' → AlikeStores m m' (spread b a n) (spread b' a n)
+  pub alike_spread : (b b' : Store) (a n : ℕ) → AlikeStores m m' b b' → AlikeStores m m' (with_blanks b a n) (with_blanks b' a n)
   alike_spread b b' a zero h = h
-  alike_spread b b' a (suc n) h = alike_spread (insert b a blank) (insert b' a blank) (a + 1) n (alike_insert b b' a blank blank h alike_blank)
+  alike_spread b b' a (suc n) h = alike_spread (insert b a blank_byte) (insert b' a blank_byte) (a + 1) n (alike_insert b b' a blank_byte blank_byte h alike_blank)
 
-  pub alike_cleared : (b b' : Store) (a n : ℕ) → AlikeStores m m' b b' → AlikeStores m m' (cleared b a n) (cleared b' a n)
+  pub alike_cleared : (b b' : Store) (a n : ℕ) → AlikeStores m m' b b' → AlikeStores m m' (without_bytes b a n) (without_bytes b' a n)
   alike_cleared b b' a zero h = h
   alike_cleared b b' a (suc n) h = alike_cleared (remove b a) (remove b' a) (a + 1) n (alike_remove b b' a h)
 
@@ -105,10 +105,10 @@ module _ (m m' : Known) where
   marks_at None (Some n') j h = absurd h
   marks_at (Some n) None j h = absurd h
 
-  pub alike_plain : (o o' : Option ℕ) (j : ℕ) (vs : List ℕ) → AlikeNumbers m m' o o' → AlikeBytes m m' (plain o j vs) (plain o' j vs)
+  pub alike_plain : (o o' : Option ℕ) (j : ℕ) (vs : List ℕ) → AlikeNumbers m m' o o' → AlikeBytes m m' (number_bytes o j vs) (number_bytes o' j vs)
   alike_plain o o' j [] h = tt
   alike_plain o o' j (v ∷ vs) h = (record { value = refl; prov = refl; index = refl; mark = marks_at o o' j h }, alike_plain o o' (j + 1) vs h)
 
-  pub alike_pointed : (o o' : Option ℕ) (p : Prov) (j : ℕ) (vs : List ℕ) → AlikeNumbers m m' o o' → AlikeBytes m m' (pointed o p j vs) (pointed o' p j vs)
+  pub alike_pointed : (o o' : Option ℕ) (p : Prov) (j : ℕ) (vs : List ℕ) → AlikeNumbers m m' o o' → AlikeBytes m m' (pointer_bytes o p j vs) (pointer_bytes o' p j vs)
   alike_pointed o o' p j [] h = tt
   alike_pointed o o' p j (v ∷ vs) h = (record { value = refl; prov = refl; index = refl; mark = marks_at o o' j h }, alike_pointed o o' p (j + 1) vs h)

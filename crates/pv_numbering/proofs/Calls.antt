@@ -9,12 +9,12 @@ use Rattle.pv_libc.specs.declared.values.Arg.{Arg}
 use Rattle.pv_libc.specs.declared.values.Reply.{Reply}
 use Rattle.pv_libc.specs.declared.values.Reply.TheVariants as reply
 use Rattle.pv_libc.specs.Steps.{Now, Did, with_notes}
-use Rattle.pv_libc.specs.Calls.{argument_at, number, size, status, called_in, called, output_in, output}
+use Rattle.pv_libc.specs.Calls.{argument_at, number, size, status, called_in, reply_to_call, output_in, output}
 use Rattle.pv_libc.specs.StringParts.{text_or_none}
 use Rattle.pv_world.specs.Worlds.{World}
 use Rattle.pv_world.specs.Telling.{Told}
 use Rattle.pv_world.specs.ObjectParts.{with_bytes}
-use Rattle.pv_eval.specs.Library.{told_of, with_memory, replied, asked, asks}
+use Rattle.pv_eval.specs.Library.{told_of, with_memory, done_by_reply, done_by_call, asks}
 use Rattle.pv_numbering.proofs.Marks.{AlikeStores}
 use Rattle.pv_numbering.proofs.Doing.{AlikeDone, at_two, Alikes, alike_world}
 use Rattle.pv_numbering.proofs.Steps.{at_bytes, AlikeDid, Keeps, done-keeps}
@@ -57,7 +57,7 @@ module _ (m m' : Known) where
   output-same library.Abort a S b h = refl
 
   -- 7.22.4.1, 7.22.4.4
-  replied-alike : (r : Reply) (w : World) (b : Store) (t : Told) → Alikes m m' w b → AlikeDone m m' (replied r w t) (replied r (with_bytes w b) t)
+  replied-alike : (r : Reply) (w : World) (b : Store) (t : Told) → Alikes m m' w b → AlikeDone m m' (done_by_reply r w t) (done_by_reply r (with_bytes w b) t)
   replied-alike reply.Nothing w b t h = (tt, alike_world m m' w b h, refl)
   replied-alike (reply.Value v) w b t h = (refl, alike_world m m' w b h, refl)
   replied-alike (reply.Exit n) w b t h = (refl, refl, alike_world m m' w b h, refl)
@@ -65,7 +65,7 @@ module _ (m m' : Known) where
   replied-alike (reply.Placement e) w b t h = (refl, refl, alike_world m m' w b h, refl)
 
   asked-alike : (w : World) (b0 : Store) (text : List ℕ) (r : Result Reply Stop) (S : Now) (b : Store) → AlikeStores m m' S.memory.bytes b
-      → AlikeDone m m' (asked w text r S) (asked (with_bytes w b0) text r (at_bytes S b))
+      → AlikeDone m m' (done_by_call w text r S) (done_by_call (with_bytes w b0) text r (at_bytes S b))
   asked-alike w b0 text (Ok r) S b h = replied-alike r (with_memory w S.memory) b (told_of S.memory S.notes text) h
   asked-alike w b0 text (Err y) S b h = (refl, refl, alike_world m m' (with_memory w S.memory) b h, refl)
 
@@ -73,8 +73,8 @@ module _ (m m' : Known) where
   pub asks-alike : (f : Library) (args : List Arg) (w : World) (b : Store) → Alikes m m' w b → AlikeDone m m' (asks f args w) (asks f args (with_bytes w b))
   asks-alike f args w b h =
       let S : Now = with_notes w.memory [] in
-      let d : Did Reply = called f args w.memory in
+      let d : Did Reply = reply_to_call f args w.memory in
       let g : AlikeDid m m' Reply d (called_in f args (at_bytes S b)) = called-keeps f args S b h in
-      at_two (λ text (x : Did Reply). AlikeDone m m' (asks f args w) (asked (with_bytes w b) text x.answer x.after)) (output f args w.memory) (output_in f args (at_bytes S b))
+      at_two (λ text (x : Did Reply). AlikeDone m m' (asks f args w) (done_by_call (with_bytes w b) text x.answer x.after)) (output f args w.memory) (output_in f args (at_bytes S b))
       (record { answer = d.answer; after = at_bytes d.after g.bytes }) (called_in f args (at_bytes S b)) (output-same f args S b h) g.is
       (asked-alike w b (output f args w.memory) d.answer d.after g.bytes g.alike)

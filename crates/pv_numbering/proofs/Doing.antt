@@ -5,9 +5,9 @@ use Rattle.pv_prov.specs.declared.names.Prov.{Prov}
 use Rattle.pv_types.specs.Known.{Known}
 use Rattle.pv_shadow.specs.Bytes.{Store}
 use Rattle.pv_world.specs.Worlds.{Worth, Nothing, World, Wrong}
-use Rattle.pv_world.specs.Telling.{Told, quiet}
+use Rattle.pv_world.specs.Telling.{Told, no_telling}
 use Rattle.pv_world.specs.Doing.{Done, Answers, Fails, Breaks}
-use Rattle.pv_world.specs.Worths.{unplain, unpresent, unless, computed}
+use Rattle.pv_world.specs.Worths.{why_not_set, why_missing, unless, arithmetic_result}
 use Rattle.pv_world.specs.ObjectParts.{with_bytes}
 use Rattle.pv_numbering.proofs.Marks.{AlikeStores}
 use Rattle.pv_numbering.proofs.Alike.{AlikeWorth, AlikeWorld}
@@ -55,18 +55,18 @@ module _ (m m' : Known) where
 
   pub unless_alike : (o : Option Wrong) (w : World) (b : Store) (d d' : Done) → Alikes w b → AlikeDone m m' d d' → AlikeDone m m' (unless o w d) (unless o (with_bytes w b) d')
   unless_alike None w b d d' h g = g
-  unless_alike (Some y) w b d d' h g = fails_alike y None w b quiet h
+  unless_alike (Some y) w b d d' h g = fails_alike y None w b no_telling h
 
   -- 6.9.1p12, 3.19.2: on values that are there and were set
-  pub plain_alike : (w : World) (b : Store) (v v' : Worth) (d d' : Done) → Alikes w b → AlikeWorth m m' v v' → AlikeDone m m' d d' → AlikeDone m m' (unless (unplain v) w d) (unless (unplain v') (with_bytes w b) d')
+  pub plain_alike : (w : World) (b : Store) (v v' : Worth) (d d' : Done) → Alikes w b → AlikeWorth m m' v v' → AlikeDone m m' d d' → AlikeDone m m' (unless (why_not_set v) w d) (unless (why_not_set v') (with_bytes w b) d')
   plain_alike w b v v' d d' h g k =
-      at_one (λ o. AlikeDone m m' (unless (unplain v) w d) (unless o (with_bytes w b) d')) (unplain v) (unplain v') (unplain-same m m' v v' g) (unless_alike (unplain v) w b d d' h k)
+      at_one (λ o. AlikeDone m m' (unless (why_not_set v) w d) (unless o (with_bytes w b) d')) (why_not_set v) (why_not_set v') (unplain-same m m' v v' g) (unless_alike (why_not_set v) w b d d' h k)
 
   -- 6.9.1p12: on values that are there
-  pub present_alike : (w : World) (b : Store) (v v' : Worth) (d d' : Done) → Alikes w b → AlikeWorth m m' v v' → AlikeDone m m' d d' → AlikeDone m m' (unless (unpresent v) w d) (unless (unpresent v') (with_bytes w b) d')
+  pub present_alike : (w : World) (b : Store) (v v' : Worth) (d d' : Done) → Alikes w b → AlikeWorth m m' v v' → AlikeDone m m' d d' → AlikeDone m m' (unless (why_missing v) w d) (unless (why_missing v') (with_bytes w b) d')
   present_alike w b v v' d d' h g k =
-      at_one (λ o. AlikeDone m m' (unless (unpresent v) w d) (unless o (with_bytes w b) d')) (unpresent v) (unpresent v') (unpresent-same m m' v v' g) (unless_alike (unpresent v) w b d d' h k)
+      at_one (λ o. AlikeDone m m' (unless (why_missing v) w d) (unless o (with_bytes w b) d')) (why_missing v) (why_missing v') (unpresent-same m m' v v' g) (unless_alike (why_missing v) w b d d' h k)
 
-  pub computed_alike : (w : World) (b : Store) (r : Result ℤ ArithmeticFault) → Alikes w b → AlikeDone m m' (computed w r) (computed (with_bytes w b) r)
+  pub computed_alike : (w : World) (b : Store) (r : Result ℤ ArithmeticFault) → Alikes w b → AlikeDone m m' (arithmetic_result w r) (arithmetic_result (with_bytes w b) r)
   computed_alike w b (Ok n) h = (refl, alike_world w b h, refl)
   computed_alike w b (Err f) h = (refl, refl, alike_world w b h, refl)

@@ -5,7 +5,7 @@ use Rattle.pv_tree.specs.declared.nodes.NodeId.{NodeId}
 use Rattle.pv_types.specs.declared.terms.Term.{Term}
 use Rattle.pv_types.specs.declared.terms.TypeId.{TypeId}
 use Rattle.pv_typed.specs.declared.rows.Row.{Row}
-use Rattle.pv_typed.specs.Built.{built}
+use Rattle.pv_typed.specs.Built.{row_by_row}
 use Rattle.pv_typed.proofs.Building.{at-append, at-last}
 
 -- the terms of types and their lists of parameters; the rows of nodes, their lists, and the lists of declared objects
@@ -108,8 +108,8 @@ pub found : {A : Type 0} (xs : List A) (x d : A) (ys : List A) → Longer (xs ++
 found xs x d ys h = ap (λ vs. get_or vs (length xs) d) (h.1 ∙ append_assoc xs (x ∷ []) h.0) ∙ get_or-append_seam xs x h.0 d
 
 -- what was made last, is made of what was there before
-pub found_built : {N T : Type 0} (make : List T → N → T) (ns : List N) (n : N) (d : T) (ms : List N) → Longer (ns ++ (n ∷ [])) ms → get_or (built make ms) (length ns) d ≡ make (built make ns) n
+pub found_built : {N T : Type 0} (make : List T → N → T) (ns : List N) (n : N) (d : T) (ms : List N) → Longer (ns ++ (n ∷ [])) ms → get_or (row_by_row make ms) (length ns) d ≡ make (row_by_row make ns) n
 found_built make ns n d ms h =
-    ap (λ vs. get_or (built make vs) (length ns) d) h.1
+    ap (λ vs. get_or (row_by_row make vs) (length ns) d) h.1
     ∙ at-append make d (ns ++ (n ∷ [])) h.0 (length ns) (omega (arith, length-append ns (n ∷ [])))
     ∙ at-last make d ns n

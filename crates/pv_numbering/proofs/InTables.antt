@@ -7,24 +7,24 @@ use Rattle.pv_types.specs.declared.terms.TypeId.{TypeId}
 use Rattle.pv_types.specs.declared.terms.Term.TheVariants.{Void, Int, Pointer, Array, Struct, Union, Function, Const}
 use Rattle.pv_types.specs.Ty.{Ty, VoidTy, ConstOf}
 use Rattle.pv_types.specs.Known.{Known, at, tree, trees, tree_in, trees_of}
-use Rattle.pv_types.specs.Sorts.{bare}
+use Rattle.pv_types.specs.Sorts.{bare_type}
 use Rattle.pv_typed.specs.Known.{Each}
 use Rattle.pv_typed.proofs.Each.{each_weaker, each_append}
 use Rattle.pv_numbering.proofs.Folds.{fold_keeps, each_or, each_always}
 
 -- the type without qualifiers is one of these, or it is `void`, of which there is no scalar
 abbrev pub IsAmong : List Ty → Ty → Type 0
-IsAmong ts t = Contains ts (bare t) ⊎ (bare t ≡ VoidTy)
+IsAmong ts t = Contains ts (bare_type t) ⊎ (bare_type t ≡ VoidTy)
 
 -- the same of a table
 abbrev pub InTable : Known → Ty → Type 0
 InTable m t = IsAmong (trees m) t
 
 among_more : (ts us : List Ty) (t : Ty) → IsAmong ts t → IsAmong (ts ++ us) t
-among_more ts us t (inl h) = inl (Contains-append_left ts us (bare t) h)
+among_more ts us t (inl h) = inl (Contains-append_left ts us (bare_type t) h)
 among_more ts us t (inr e) = inr e
 
-among_last : (ts : List Ty) (t : Ty) → bare t ≡ t → IsAmong (ts ++ (t ∷ [])) t
+among_last : (ts : List Ty) (t : Ty) → bare_type t ≡ t → IsAmong (ts ++ (t ∷ [])) t
 among_last ts t e = inl (subst (Contains (ts ++ (t ∷ []))) (sym e) (Contains-append_right ts (t ∷ []) t (0, omega arith, refl)))
 
 -- a tree that is made of trees whose unqualified ones are among them

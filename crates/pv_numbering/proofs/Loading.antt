@@ -7,7 +7,7 @@ use Rattle.pv_fault.specs.declared.faults.Reason.TheVariants as reason
 use Rattle.pv_prov.specs.declared.names.Prov.{Prov}
 use Rattle.pv_prov.specs.Names.{same_name}
 use Rattle.pv_inst.specs.Table.{Table}
-use Rattle.pv_inst.specs.Use.{untried}
+use Rattle.pv_inst.specs.Use.{empty_use}
 use Rattle.pv_inst.specs.Exposure.{expose}
 use Rattle.pv_types.specs.Known.{Known}
 use Rattle.pv_shadow.specs.declared.byte.Byte.{Byte}
@@ -55,9 +55,9 @@ module _ (m m' : Known) where
   exposed-same T (x ∷ xs) [] h = absurd h
 
   integer-same : (T : Table) (k : IntKind) (xs xs' : List Byte) (o : Option ℕ) → AlikeBytes m m' xs xs' → integer_of T k xs' o ≡ integer_of T k xs o
-  integer-same T k xs xs' None h = λ i. if is_character k then (Ok (value.Unset, untried), exposed-same T xs xs' h i) else (Err (Ends Indeterminate), T)
+  integer-same T k xs xs' None h = λ i. if is_character k then (Ok (value.Unset, empty_use), exposed-same T xs xs' h i) else (Err (Ends Indeterminate), T)
   integer-same T k xs xs' (Some n) h = λ i.
-      if is_trap k n then (Err (fault clause.Traps reason.Trap), T) else (Ok (value.Int (convert_of k (pos n)), untried), exposed-same T xs xs' h i)
+      if is_trap k n then (Err (fault clause.Traps reason.Trap), T) else (Ok (value.Int (convert_of k (pos n)), empty_use), exposed-same T xs xs' h i)
 
   pointer-same : (T : Table) (xs xs' : List Byte) (o : Option ℕ) → AlikeBytes m m' xs xs' → pointer_of T xs' o ≡ pointer_of T xs o
   pointer-same T xs xs' None h = refl

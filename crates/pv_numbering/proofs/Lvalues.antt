@@ -11,7 +11,7 @@ use Rattle.pv_inst.specs.declared.values.Kind.{Kind}
 use Rattle.pv_inst.specs.declared.values.Kind.TheVariants.{Declared, Literal, Heap, Function}
 use Rattle.pv_inst.specs.Table.{instance_at}
 use Rattle.pv_shadow.specs.declared.byte.Byte.{Byte}
-use Rattle.pv_shadow.specs.Bytes.{Store, read, written}
+use Rattle.pv_shadow.specs.Bytes.{Store, bytes_from, with_bytes_at}
 use Rattle.pv_object.specs.declared.values.Pointer.{Pointer}
 use Rattle.pv_object.specs.declared.values.Reach.{Reach}
 use Rattle.pv_seq.specs.Sequencing.{Access, conflicts}
@@ -19,7 +19,7 @@ use Rattle.pv_world.specs.declared.got.Shape.TheVariants as shape
 use Rattle.pv_world.specs.Worlds.{Worth, World}
 use Rattle.pv_world.specs.Telling.{Told}
 use Rattle.pv_world.specs.Doing.{Done, Fails}
-use Rattle.pv_world.specs.Worths.{undefined, pointer_of}
+use Rattle.pv_world.specs.Worths.{undefined_behaviour, pointer_of}
 use Rattle.pv_world.specs.ObjectParts.{with_bytes}
 use Rattle.pv_world.specs.Accesses.{stored_as, is_inexact}
 use Rattle.pv_eval.specs.States.{Setting}
@@ -61,7 +61,7 @@ module _ (b : Setting) (m' : Known) (laid : env m' ≡ env b.types) where
     kind-same w z at writes Function h = refl
     kind-same w z at writes Heap h =
         ap (λ c. writes || c)
-        (bytes-same b.types m' laid (leaves (parts_of b l.t)) 0 (read w.memory.bytes at.address l.size) (read z at.address l.size) (alike_read b.types m' w.memory.bytes z at.address l.size h))
+        (bytes-same b.types m' laid (leaves (parts_of b l.t)) 0 (bytes_from w.memory.bytes at.address l.size) (bytes_from z at.address l.size) (alike_read b.types m' w.memory.bytes z at.address l.size h))
 
     row-same : (w : World) (z : Store) (at : Reach) (writes : Bool) (o : Option Instance) → Alikes b.types m' w z
         → permits_row (with_types b m') (with_bytes w z) renumbered at writes o ≡ permits_row b w l at writes o
@@ -72,21 +72,21 @@ module _ (b : Setting) (m' : Known) (laid : env m' ≡ env b.types) where
     permits-same w z at writes h = row-same w z at writes (instance_at w.memory.table.instances at.inst) h
 
     permitted-alike : (w : World) (z : Store) (at : Reach) (writes : Bool) (p : Pointer) (t : Told) (d d' : Done) → Alikes b.types m' w z → AlikeDone b.types m' d d'
-        → AlikeDone b.types m' (if permits b w l at writes then d else Fails (undefined EffectiveTypes WrongType) (Some p.prov) w t)
-        (if permits (with_types b m') (with_bytes w z) renumbered at writes then d' else Fails (undefined EffectiveTypes WrongType) (Some p.prov) (with_bytes w z) t)
+        → AlikeDone b.types m' (if permits b w l at writes then d else Fails (undefined_behaviour EffectiveTypes WrongType) (Some p.prov) w t)
+        (if permits (with_types b m') (with_bytes w z) renumbered at writes then d' else Fails (undefined_behaviour EffectiveTypes WrongType) (Some p.prov) (with_bytes w z) t)
     permitted-alike w z at writes p t d d' h g =
-        at_one (λ c. AlikeDone b.types m' (if permits b w l at writes then d else Fails (undefined EffectiveTypes WrongType) (Some p.prov) w t)
-        (if c then d' else Fails (undefined EffectiveTypes WrongType) (Some p.prov) (with_bytes w z) t))
+        at_one (λ c. AlikeDone b.types m' (if permits b w l at writes then d else Fails (undefined_behaviour EffectiveTypes WrongType) (Some p.prov) w t)
+        (if c then d' else Fails (undefined_behaviour EffectiveTypes WrongType) (Some p.prov) (with_bytes w z) t))
         (permits b w l at writes) (permits (with_types b m') (with_bytes w z) renumbered at writes) (permits-same w z at writes h)
-        (either_alike b.types m' (permits b w l at writes) d d' _ _ g (fails_alike b.types m' (undefined EffectiveTypes WrongType) (Some p.prov) w z t h))
+        (either_alike b.types m' (permits b w l at writes) d d' _ _ g (fails_alike b.types m' (undefined_behaviour EffectiveTypes WrongType) (Some p.prov) w z t h))
 
     -- 6.3.2.1p2: a read
     reads_at-alike : (p : Pointer) (rivals : List Access) (at : Reach) (w : World) (z : Store) (t : Told) → Alikes b.types m' w z
         → AlikeDone b.types m' (reads_at b l p rivals at w t) (reads_at (with_types b m') renumbered p rivals at (with_bytes w z) t)
     reads_at-alike p rivals at w z t h =
         permitted-alike w z at false p t _ _ h
-        (either_alike b.types m' (conflicts (access_to l p false) rivals) _ _ _ _ (fails_alike b.types m' (undefined Sequencing Unsequenced) (Some p.prov) w z t h)
-        (worth_in-alike b.types m' w z (read w.memory.bytes at.address l.size) (read z at.address l.size) l.shape (Some at.address) (Some p.prov) t
+        (either_alike b.types m' (conflicts (access_to l p false) rivals) _ _ _ _ (fails_alike b.types m' (undefined_behaviour Sequencing Unsequenced) (Some p.prov) w z t h)
+        (worth_in-alike b.types m' w z (bytes_from w.memory.bytes at.address l.size) (bytes_from z at.address l.size) l.shape (Some at.address) (Some p.prov) t
         (alike_read b.types m' w.memory.bytes z at.address l.size h) h))
 
     reads_from-alike : (p : Pointer) (rivals : List Access) (w : World) (z : Store) → Alikes b.types m' w z
@@ -101,10 +101,10 @@ module _ (b : Setting) (m' : Known) (laid : env m' ≡ env b.types) where
       writes_alone-alike p at w z t h =
           let xs : List Byte = stored_as l.number l.shape v in
           let xs' : List Byte = stored_as k l.shape v' in
-          either_alike b.types m' (is_inexact from p.address l.size) _ _ _ _ (fails_alike b.types m' (undefined OverlappingAssignment Overlap) (Some p.prov) w z t h) (
+          either_alike b.types m' (is_inexact from p.address l.size) _ _ _ _ (fails_alike b.types m' (undefined_behaviour OverlappingAssignment Overlap) (Some p.prov) w z t h) (
             g,
             record {
-              bytes = written z at.address xs';
+              bytes = with_bytes_at z at.address xs';
               is = refl;
               alike = alike_written b.types m' w.memory.bytes z at.address xs xs' h (stored-alike b.types m' l.shape l.number k v v' marks g);
             },
@@ -115,7 +115,7 @@ module _ (b : Setting) (m' : Known) (laid : env m' ≡ env b.types) where
           → AlikeDone b.types m' (writes_at b l p v from rivals at w t) (writes_at (with_types b m') renumbered p v' from rivals at (with_bytes w z) t)
       writes_at-alike p rivals at w z t h =
           permitted-alike w z at true p t _ _ h
-          (either_alike b.types m' (conflicts (access_to l p true) rivals) _ _ _ _ (fails_alike b.types m' (undefined Sequencing Unsequenced) (Some p.prov) w z t h) (writes_alone-alike p at w z t h))
+          (either_alike b.types m' (conflicts (access_to l p true) rivals) _ _ _ _ (fails_alike b.types m' (undefined_behaviour Sequencing Unsequenced) (Some p.prov) w z t h) (writes_alone-alike p at w z t h))
 
       writes_to-alike : (p : Pointer) (rivals : List Access) (w : World) (z : Store) → Alikes b.types m' w z
           → AlikeDone b.types m' (writes_to b l p from rivals w v) (writes_to (with_types b m') renumbered p from rivals (with_bytes w z) v')

@@ -2,7 +2,7 @@
 use Rattle.std.proofs.Common.{◌≡◌, ℕ, Bool, List, subst, sym}
 use Rattle.std.specs.Prelude.{Option}
 use Rattle.pv_script.specs.Lines.{ScriptLine}
-use Rattle.pv_typed.specs.Tables.{Stored, whole}
+use Rattle.pv_typed.specs.Tables.{Stored, whole_unit}
 use Rattle.pv_eval.specs.States.{Setting}
 use Rattle.pv_exec.specs.Run.{setting_of, run_of}
 use Rattle.pv_exec.specs.Laws.{run_at}
@@ -11,7 +11,7 @@ use Rattle.pv_numbering.proofs.Operations.{acts-alike}
 use Rattle.pv_numbering.proofs.Runs.{same-run}
 use Rattle.pv_numbering.proofs.Tables.{same_layouts, unit_alike, other_setting}
 
-pub same-tables : (u v : Stored) → whole u ≡ whole v → (sides : Option (List Bool)) (zap : Bool) (script : List ScriptLine) (n : ℕ) → SameRun (run_at u sides zap script n) (run_at v sides zap script n)
+pub same-tables : (u v : Stored) → whole_unit u ≡ whole_unit v → (sides : Option (List Bool)) (zap : Bool) (script : List ScriptLine) (n : ℕ) → SameRun (run_at u sides zap script n) (run_at v sides zap script n)
 same-tables u v same sides zap script n =
     let b = setting_of u n sides zap in
     subst (λ (c : Setting). SameRun (run_of b script) (run_of c script)) (other_setting u v same n sides zap)

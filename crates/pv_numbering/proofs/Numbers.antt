@@ -7,7 +7,7 @@ use Rattle.std.proofs.lemmas.List.Sums.{passes_at_first, fails_before_first}
 use Rattle.pv_types.specs.Ty.{Ty, VoidTy, IntTy, PointerTo, ArrayOf, StructTag, UnionTag, FunctionTy, ConstOf}
 use Rattle.pv_types.specs.Known.{Known, tree, trees}
 use Rattle.pv_types.proofs.Trees.{length-trees}
-use Rattle.pv_types.specs.Sorts.{bare, is_character}
+use Rattle.pv_types.specs.Sorts.{bare_type, is_character}
 use Rattle.pv_effect.specs.EffectiveType.{same_or_counterpart}
 use Rattle.pv_types.specs.SameTypes.{same_type}
 use Rattle.pv_world.specs.declared.got.Shape.TheVariants as shape
@@ -51,7 +51,7 @@ numbers_accept m m' t n n' h h' k j u =
     ∙ ap (λ b. is_character u || (b && ((k == j) && same_or_counterpart u (tree m n)))) (known' ∙ sym known)
 
 -- 6.2.5p19: what is `void`, qualifiers aside, has no scalar
-no_scalar : (t : Ty) → bare t ≡ VoidTy → shape_of t ≡ shape.Whole
+no_scalar : (t : Ty) → bare_type t ≡ VoidTy → shape_of t ≡ shape.Whole
 no_scalar VoidTy e = refl
 no_scalar (IntTy k) e = absurd cc
 no_scalar (PointerTo t) e = absurd cc
@@ -61,15 +61,15 @@ no_scalar (UnionTag n) e = refl
 no_scalar (FunctionTy t ts v) e = refl
 no_scalar (ConstOf t) e = no_scalar t e
 
-marked_alike : (m m' : Known) (t : Ty) → InTable m t → InTable m' t → shape_of t ≢ shape.Whole → (k : ℕ) → AcceptedAlike m m' (number_of m (bare t), k) (number_of m' (bare t), k)
-marked_alike m m' t (inl h) (inl h') scalar = numbers_accept m m' (bare t) (number_of m (bare t)) (number_of m' (bare t)) (numbered m (bare t) h) (numbered m' (bare t) h')
+marked_alike : (m m' : Known) (t : Ty) → InTable m t → InTable m' t → shape_of t ≢ shape.Whole → (k : ℕ) → AcceptedAlike m m' (number_of m (bare_type t), k) (number_of m' (bare_type t), k)
+marked_alike m m' t (inl h) (inl h') scalar = numbers_accept m m' (bare_type t) (number_of m (bare_type t)) (number_of m' (bare_type t)) (numbered m (bare_type t) h) (numbered m' (bare_type t) h')
 marked_alike m m' t (inr e) h' scalar = absurd (scalar (no_scalar t e))
 marked_alike m m' t (inl h) (inr e) scalar = absurd (scalar (no_scalar t e))
 
 -- so the lvalues of one type mark alike
 pub alike_lvalue : (b : Setting) (m' : Known) (t : Ty) → InTable b.types t → InTable m' t → AlikeLvalue b.types m' (lvalue b t) (lvalue (with_types b m') t)
 alike_lvalue b m' t h h' = record {
-  number = number_of m' (bare t);
+  number = number_of m' (bare_type t);
   is = refl;
   marks = marked_alike b.types m' t h h';
 }

@@ -6,7 +6,7 @@ use Rattle.pv_types.specs.Known.{Known, env}
 use Rattle.pv_typed.specs.TypedUnits.{layouts}
 use Rattle.pv_shadow.specs.Bytes.{Store}
 use Rattle.pv_world.specs.Worlds.{World}
-use Rattle.pv_world.specs.Telling.{quiet}
+use Rattle.pv_world.specs.Telling.{no_telling}
 use Rattle.pv_world.specs.Doing.{Done, Fails}
 use Rattle.pv_world.specs.Worths.{missing_value}
 use Rattle.pv_world.specs.Pointers.{is_order}
@@ -35,9 +35,9 @@ first_true false d e = e
 module _ (b : Setting) (m' : Known) (laid : env m' ≡ env b.types) where
   -- both are made of operands that suit, or of none that do
   suited_by : (c : Bool) (w : World) (z : Store) (d d' : Done) → Alikes b.types m' w z → (c ≡ true → AlikeDone b.types m' d d')
-      → AlikeDone b.types m' (if c then d else Fails missing_value None w quiet) (if c then d' else Fails missing_value None (with_bytes w z) quiet)
+      → AlikeDone b.types m' (if c then d else Fails missing_value None w no_telling) (if c then d' else Fails missing_value None (with_bytes w z) no_telling)
   suited_by true w z d d' h k = k refl
-  suited_by false w z d d' h k = fails_alike b.types m' missing_value None w z quiet h
+  suited_by false w z d d' h k = fails_alike b.types m' missing_value None w z no_telling h
 
   -- an operation is alike where its operands suit alike, and what it does where they do
   act-alike : (o o' : Op) → ((w : World) (z : Store) → suits (with_types b m') o' (with_bytes w z) ≡ suits b o w)
@@ -47,7 +47,7 @@ module _ (b : Setting) (m' : Known) (laid : env m' ≡ env b.types) where
       let w' : World = with_bytes w h.bytes in
       subst (λ x. AlikeRes b.types m' (AlikeWorth b.types m') (act b line o s) (act (with_types b m') line o' x)) (sym h.is)
       (acted-alike b m' line (does b o w) (does (with_types b m') o' w') s h.bytes
-      (at_one (λ c. AlikeDone b.types m' (does b o w) (if c then works (with_types b m') o' w' else Fails missing_value None w' quiet)) (suits b o w) (suits (with_types b m') o' w') (e w h.bytes)
+      (at_one (λ c. AlikeDone b.types m' (does b o w) (if c then works (with_types b m') o' w' else Fails missing_value None w' no_telling)) (suits b o w) (suits (with_types b m') o' w') (e w h.bytes)
       (suited_by (suits b o w) w h.bytes (works b o w) (works (with_types b m') o' w') h.alike (λ c. k w h.bytes c h.alike))))
 
   -- through lvalues that are alike

@@ -15,14 +15,14 @@ use Rattle.pv_object.specs.declared.values.Pointer.{Pointer}
 use Rattle.pv_object.specs.declared.values.Value.{Value}
 use Rattle.pv_object.specs.declared.values.Value.TheVariants.{Int as IntValue, Unset, Pointer as PointerValue}
 use Rattle.pv_object.specs.declared.values.Stop.{Stop}
-use Rattle.pv_object.specs.Operations.{truth, to_ptr, recast, to_int, code, together, order, equal, shift, select}
+use Rattle.pv_object.specs.Operations.{truth, to_ptr, recast, to_int, code, together, order, pointer_equality, shift, select}
 use Rattle.pv_watch.specs.declared.event.What.{What}
 use Rattle.pv_world.specs.declared.got.How.{How}
 use Rattle.pv_world.specs.declared.got.How.TheVariants.{Rounds, Passes, Tests, Numbers, Points, Recasts, Voids}
 use Rattle.pv_world.specs.Worlds.{Worth, World, with_table}
-use Rattle.pv_world.specs.Telling.{quiet, telling, used, code_test, all_told}
+use Rattle.pv_world.specs.Telling.{no_telling, telling, event_of_use, code_test, all_told}
 use Rattle.pv_world.specs.Doing.{Done, Answers}
-use Rattle.pv_world.specs.Worths.{int, truth_int, int_of, pointer_of, computed}
+use Rattle.pv_world.specs.Worths.{int, truth_int, int_of, pointer_of, arithmetic_result}
 use Rattle.pv_world.specs.Objects.{owner_of}
 use Rattle.pv_world.specs.ObjectParts.{with_bytes}
 use Rattle.pv_world.specs.Conversions as convert
@@ -45,7 +45,7 @@ module _ (m m' : Known) where
   number_by-alike w b p (Ok r, T) h = (refl, alike_world m m' (with_table w (all_told T)) b h, refl)
   number_by-alike w b p (Err y, T) h = (refl, refl, alike_world m m' (with_table w T) b h, refl)
 
-  pointed-alike : (w : World) (b : Store) (r : Result Pointer Stop × Table) → Alikes m m' w b → AlikeDone m m' (convert.pointed w r) (convert.pointed (with_bytes w b) r)
+  pointed-alike : (w : World) (b : Store) (r : Result Pointer Stop × Table) → Alikes m m' w b → AlikeDone m m' (convert.pointer_by_number w r) (convert.pointer_by_number (with_bytes w b) r)
   pointed-alike w b (Ok p, T) h = (refl, alike_world m m' (with_table w T) b h, refl)
   pointed-alike w b (Err y, T) h = (refl, refl, alike_world m m' (with_table w T) b h, refl)
 
@@ -117,14 +117,14 @@ module _ (m m' : Known) where
   -- 6.3
   truth_value-alike : (w : World) (b : Store) (v : Value) (give : Bool → Worth) → ((c : Bool) → AlikeWorth m m' (give c) (give c)) → Alikes m m' w b
       → AlikeDone m m' (convert.truth_value w v give) (convert.truth_value (with_bytes w b) v give)
-  truth_value-alike w b (IntValue n) give g h = gives_alike m m' _ _ w b quiet (g (not (int_eq n (pos 0)))) h
+  truth_value-alike w b (IntValue n) give g h = gives_alike m m' _ _ w b no_telling (g (not (int_eq n (pos 0)))) h
   truth_value-alike w b (PointerValue p) give g h = truth_by-alike w b p (truth w.memory.table p) give g h
-  truth_value-alike w b Unset give g h = gives_alike m m' _ _ w b quiet (g false) h
+  truth_value-alike w b Unset give g h = gives_alike m m' _ _ w b no_telling (g false) h
 
   tests_by : (give : Bool → Worth) → ((c : Bool) → AlikeWorth m m' (give c) (give c)) → (v v' : Worth) → AlikeWorth m m' v v' → (w : World) (b : Store) → Alikes m m' w b
       → AlikeDone m m' (convert.tests give v w) (convert.tests give v' (with_bytes w b))
   tests_by give k v v' g w b h =
-      let no : AlikeDone m m' (Answers (give false) w quiet) (Answers (give false) (with_bytes w b) quiet) = gives_alike m m' (give false) (give false) w b quiet (k false) h in
+      let no : AlikeDone m m' (Answers (give false) w no_telling) (Answers (give false) (with_bytes w b) no_telling) = gives_alike m m' (give false) (give false) w b no_telling (k false) h in
       plain_alike m m' w b v v' (convert.truth_worth w give v) (convert.truth_worth (with_bytes w b) give v') h g
       (by_worths m m' (λ v v'. AlikeDone m m' (convert.truth_worth w give v) (convert.truth_worth (with_bytes w b) give v'))
       no no (λ v. truth_value-alike w b v give k h) (λ xs xs' a e. no) v v' g)
@@ -140,47 +140,47 @@ module _ (m m' : Known) where
       by_worths m m' (λ v v'. AlikeDone m m' (convert.passes k w v) (convert.passes k (with_bytes w b) v'))
       (tt, alike_world m m' w b h, refl) (tt, alike_world m m' w b h, refl) passes_scalar (λ xs xs' a e. ((e, refl), alike_world m m' w b h, refl)) v v' g
     where
-      passes_scalar : (v : Value) → AlikeDone m m' (Answers (convert.passed k v) w quiet) (Answers (convert.passed k v) (with_bytes w b) quiet)
+      passes_scalar : (v : Value) → AlikeDone m m' (Answers (convert.character_conversion k v) w no_telling) (Answers (convert.character_conversion k v) (with_bytes w b) no_telling)
       passes_scalar (IntValue n) = (refl, alike_world m m' w b h, refl)
       passes_scalar Unset = (refl, alike_world m m' w b h, refl)
       passes_scalar (PointerValue p) = (refl, alike_world m m' w b h, refl)
 
   pub converts-alike : (how : How) (v v' : Worth) → AlikeWorth m m' v v' → (w : World) (b : Store) → Alikes m m' w b → AlikeDone m m' (convert.converts how v w) (convert.converts how v' (with_bytes w b))
   converts-alike (Rounds k) v v' g w b h =
-      plain_alike m m' w b v v' _ _ h g (by_number (λ w n. Answers (int (convert_of k n)) w quiet) v v' w b g (λ n. (refl, alike_world m m' w b h, refl)))
+      plain_alike m m' w b v v' _ _ h g (by_number (λ w n. Answers (int (convert_of k n)) w no_telling) v v' w b g (λ n. (refl, alike_world m m' w b h, refl)))
   converts-alike (Passes k) v v' g w b h = present_alike m m' w b v v' _ _ h g (passes-alike k v v' g w b h)
   converts-alike Tests v v' g w b h = tests-alike v v' g w b h
   converts-alike (Numbers k) v v' g w b h =
       plain_alike m m' w b v v' _ _ h g (by_pointer (λ w p. convert.number_by w p (to_int w.memory.table p k)) v v' w b g (λ p. number_by-alike w b p (to_int w.memory.table p k) h))
   converts-alike Points v v' g w b h =
-      plain_alike m m' w b v v' _ _ h g (by_number (λ w n. convert.pointed w (to_ptr w.memory.table n)) v v' w b g (λ n. pointed-alike w b (to_ptr w.memory.table n) h))
+      plain_alike m m' w b v v' _ _ h g (by_number (λ w n. convert.pointer_by_number w (to_ptr w.memory.table n)) v v' w b g (λ n. pointed-alike w b (to_ptr w.memory.table n) h))
   converts-alike (Recasts n) v v' g w b h =
       plain_alike m m' w b v v' _ _ h g (by_pointer (λ w p. convert.recast_by w p (recast w.memory.table p n)) v v' w b g (λ p. recast_by-alike w b p (recast w.memory.table p n) h))
-  converts-alike Voids v v' g w b h = does_nothing m m' w b quiet h
+  converts-alike Voids v v' g w b h = does_nothing m m' w b no_telling h
 
   -- 6.5.2.2p4, 6.5.3.2p4, 6.8.4.2p5: a value that is passed on or looked at
   pub accepts-alike : (v v' : Worth) → AlikeWorth m m' v v' → (w : World) (b : Store) → Alikes m m' w b → AlikeDone m m' (calculate_parts.accepts v w) (calculate_parts.accepts v' (with_bytes w b))
-  accepts-alike v v' g w b h = present_alike m m' w b v v' _ _ h g (gives_alike m m' v v' w b quiet g h)
+  accepts-alike v v' g w b h = present_alike m m' w b v v' _ _ h g (gives_alike m m' v v' w b no_telling g h)
 
   pub needs-alike : (v v' : Worth) → AlikeWorth m m' v v' → (w : World) (b : Store) → Alikes m m' w b → AlikeDone m m' (calculate_parts.needs v w) (calculate_parts.needs v' (with_bytes w b))
-  needs-alike v v' g w b h = plain_alike m m' w b v v' _ _ h g (gives_alike m m' v v' w b quiet g h)
+  needs-alike v v' g w b h = plain_alike m m' w b v v' _ _ h g (gives_alike m m' v v' w b no_telling g h)
 
   pub follows-alike : (nothing : Bool) (v v' : Worth) → AlikeWorth m m' v v' → (w : World) (b : Store) → Alikes m m' w b
       → AlikeDone m m' (calculate.follows_to nothing v w) (calculate.follows_to nothing v' (with_bytes w b))
-  follows-alike true v v' g w b h = present_alike m m' w b v v' _ _ h g (does_nothing m m' w b quiet h)
-  follows-alike false v v' g w b h = present_alike m m' w b v v' _ _ h g (gives_alike m m' v v' w b quiet g h)
+  follows-alike true v v' g w b h = present_alike m m' w b v v' _ _ h g (does_nothing m m' w b no_telling h)
+  follows-alike false v v' g w b h = present_alike m m' w b v v' _ _ h g (gives_alike m m' v v' w b no_telling g h)
 
   -- 6.5.3.3, 6.5.5 to 6.5.12
   pub calculates-alike : (k : BinOp) (i : IntKind) (v v' x x' : Worth) → AlikeWorth m m' v v' → AlikeWorth m m' x x' → (w : World) (b : Store) → Alikes m m' w b
       → AlikeDone m m' (calculate_parts.calculates k i v x w) (calculate_parts.calculates k i v' x' (with_bytes w b))
   calculates-alike k i v v' x x' g f w b h =
       plain_alike m m' w b v v' _ _ h g (plain_alike m m' w b x x' _ _ h f
-      (by_numbers (λ w n l. computed w (binary_of k i n l)) v v' x x' w b g f (λ n l. computed_alike m m' w b (binary_of k i n l) h)))
+      (by_numbers (λ w n l. arithmetic_result w (binary_of k i n l)) v v' x x' w b g f (λ n l. computed_alike m m' w b (binary_of k i n l) h)))
 
   pub calculates_one-alike : (k : UnOp) (i : IntKind) (v v' : Worth) → AlikeWorth m m' v v' → (w : World) (b : Store) → Alikes m m' w b
       → AlikeDone m m' (calculate_parts.calculates_one k i v w) (calculate_parts.calculates_one k i v' (with_bytes w b))
   calculates_one-alike k i v v' g w b h =
-      plain_alike m m' w b v v' _ _ h g (by_number (λ w n. computed w (unary_of k i n)) v v' w b g (λ n. computed_alike m m' w b (unary_of k i n) h))
+      plain_alike m m' w b v v' _ _ h g (by_number (λ w n. arithmetic_result w (unary_of k i n)) v v' w b g (λ n. computed_alike m m' w b (unary_of k i n) h))
 
   -- 6.5.2.3, 6.5.6, 6.5.8, 6.5.9
   moves_pointer-alike : (minus : Bool) (size : ℕ) (v v' x x' : Worth) → AlikeWorth m m' v v' → AlikeWorth m m' x x' → (w : World) (b : Store) → Alikes m m' w b
@@ -212,7 +212,7 @@ module _ (m m' : Known) where
       → AlikeDone m m' (point.equals negated v x w) (point.equals negated v' x' (with_bytes w b))
   equals-alike negated v v' x x' g f w b h =
       plain_alike m m' w b v v' _ _ h g (plain_alike m m' w b x x' _ _ h f
-      (by_pointers (λ w p q. point.equal_by negated w p q (equal w.memory.table p q)) v v' x x' w b g f (λ p q. equal_by-alike negated w b p q (equal w.memory.table p q) h)))
+      (by_pointers (λ w p q. point.equal_by negated w p q (pointer_equality w.memory.table p q)) v v' x x' w b g f (λ p q. equal_by-alike negated w b p q (pointer_equality w.memory.table p q) h)))
 
   found_in-alike : (w : World) (b : Store) (p : Pointer) (fits : Option ℕ → Bool) (o : Option ℕ) (us : List What) → Alikes m m' w b
       → AlikeDone m m' (point.found_in w p fits o us) (point.found_in (with_bytes w b) p fits o us)
@@ -220,7 +220,7 @@ module _ (m m' : Known) where
       either_alike m m' (fits o) _ _ _ _ (gives_alike m m' (int (pos (unwrap_or o 0))) (int (pos (unwrap_or o 0))) w b (telling us) refl h) (fails_alike m m' point_parts.unlike (Some p.prov) w b (telling us) h)
 
   found_by-alike : (w : World) (b : Store) (p : Pointer) (fits : Option ℕ → Bool) (r : Result (ℕ × Tried) Stop × Table) → Alikes m m' w b → AlikeDone m m' (point.found_by w p fits r) (point.found_by (with_bytes w b) p fits r)
-  found_by-alike w b p fits (Ok r, T) h = found_in-alike (with_table w T) b p fits (owner_of w r.0) (used code_test r.1) h
+  found_by-alike w b p fits (Ok r, T) h = found_in-alike (with_table w T) b p fits (owner_of w r.0) (event_of_use code_test r.1) h
   found_by-alike w b p fits (Err y, T) h = (refl, refl, alike_world m m' (with_table w T) b h, refl)
 
   pub finds-alike : (fits : Option ℕ → Bool) (v v' : Worth) → AlikeWorth m m' v v' → (w : World) (b : Store) → Alikes m m' w b → AlikeDone m m' (point.finds fits v w) (point.finds fits v' (with_bytes w b))

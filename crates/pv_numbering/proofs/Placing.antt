@@ -4,9 +4,9 @@ use Rattle.pv_script.specs.Names.{name_at as text_of}
 use Rattle.pv_types.specs.Known.{Known}
 use Rattle.pv_typed.specs.TypedUnits.{TypedObject, TypedFunction, object_at, function_at, literal_at}
 use Rattle.pv_shadow.specs.Bytes.{Store}
-use Rattle.pv_shadow.specs.Whole.{plain}
+use Rattle.pv_shadow.specs.Whole.{number_bytes}
 use Rattle.pv_world.specs.Worlds.{Worth, Nothing, World}
-use Rattle.pv_world.specs.Telling.{quiet}
+use Rattle.pv_world.specs.Telling.{no_telling}
 use Rattle.pv_world.specs.Doing.{Done, Answers}
 use Rattle.pv_world.specs.Accesses.{stored_as}
 use Rattle.pv_world.specs.ObjectParts.{with_bytes, names_literal, names_function, begins_body, ends_body}
@@ -26,10 +26,10 @@ use Rattle.pv_numbering.proofs.Suiting.{knows-same, is_stored-same}
 module _ (b : Setting) (m' : Known) where
   -- both are done where they can be
   possible-alike : (c c' : Bool) (w : World) (z : Store) (d d' : Done) → c' ≡ c → Alikes b.types m' w z → AlikeDone b.types m' d d'
-      → AlikeDone b.types m' (if c then d else Answers Nothing w quiet) (if c' then d' else Answers Nothing (with_bytes w z) quiet)
+      → AlikeDone b.types m' (if c then d else Answers Nothing w no_telling) (if c' then d' else Answers Nothing (with_bytes w z) no_telling)
   possible-alike c c' w z d d' e h g =
-      at_one (λ x. AlikeDone b.types m' (if c then d else Answers Nothing w quiet) (if x then d' else Answers Nothing (with_bytes w z) quiet)) c c' e
-      (either_alike b.types m' c d d' _ _ g (does_nothing b.types m' w z quiet h))
+      at_one (λ x. AlikeDone b.types m' (if c then d else Answers Nothing w no_telling) (if x then d' else Answers Nothing (with_bytes w z) no_telling)) c c' e
+      (either_alike b.types m' c d d' _ _ g (does_nothing b.types m' w z no_telling h))
 
   pub names_object-alike : (o : ℕ) (w : World) (z : Store) → Alikes b.types m' w z → AlikeDone b.types m' (names_object b o w) (names_object (with_types b m') o (with_bytes w z))
   names_object-alike o w z h = (refl, alike_world b.types m' w z h, refl)
@@ -96,4 +96,4 @@ module _ (b : Setting) (m' : Known) where
   puts_text-alike o offset size l w z h =
       let text : List ℕ = text_for b size l in
       possible-alike (can_put_text b o offset size l w) (can_put_text b o offset size l w) w z _ _ refl h
-      (puts_bytes-alike b.types m' o (object_at b.unit o).lasting offset (plain None 0 text) (plain None 0 text) (alike_plain b.types m' None None 0 text tt) w z h)
+      (puts_bytes-alike b.types m' o (object_at b.unit o).lasting offset (number_bytes None 0 text) (number_bytes None 0 text) (alike_plain b.types m' None None 0 text tt) w z h)

@@ -10,7 +10,7 @@ use Rattle.pv_inst.specs.declared.values.Tried.{Tried}
 use Rattle.pv_inst.specs.Table.{Table, instance_at}
 use Rattle.pv_inst.specs.Infos.{info_of}
 use Rattle.pv_shadow.specs.declared.byte.Byte.{Byte}
-use Rattle.pv_shadow.specs.Bytes.{Store, read}
+use Rattle.pv_shadow.specs.Bytes.{Store, bytes_from}
 use Rattle.pv_object.specs.declared.values.Stop.{Stop}
 use Rattle.pv_object.specs.declared.values.Value.TheVariants as value
 use Rattle.pv_object.specs.declared.values.Asker.TheVariants.{Print}
@@ -19,12 +19,12 @@ use Rattle.pv_object.specs.Operations.{to_int}
 use Rattle.pv_libc.specs.declared.values.Arg.{Arg}
 use Rattle.pv_libc.specs.declared.values.Reply.{Reply}
 use Rattle.pv_libc.specs.declared.values.Reply.TheVariants as reply
-use Rattle.pv_libc.specs.Steps.{Now, Did, done, next_by, next}
+use Rattle.pv_libc.specs.Steps.{Now, Did, answer_now, next_by, next}
 use Rattle.pv_libc.specs.Formats.{piece_at, number_piece}
 use Rattle.pv_libc.specs.FormatParts.{percent_piece, given_of, unless_zero, literal_bytes}
 use Rattle.pv_libc.specs.Arguments.{string_of, address_of}
 use Rattle.pv_libc.specs.Printing.{number_done, string_done, address_by, address_done, Printed, piece_done, printed_from, before_zero, format_of}
-use Rattle.pv_libc.specs.Calls.{pointer, offer, printed, printf}
+use Rattle.pv_libc.specs.Calls.{pointer, offer, text_of_format, printf}
 use Rattle.pv_numbering.proofs.Marks.{AlikeBytes, AlikeStores}
 use Rattle.pv_numbering.proofs.Bytes.{alike_read}
 use Rattle.pv_numbering.proofs.Doing.{at_one}
@@ -81,15 +81,15 @@ module _ (m m' : Known) where
   -- a conversion's text, and then the rest of the format
   taken_by-alike : (cs : List ℕ) (r : Result (List ℕ) Stop) (d : Did (List ℕ)) (b : Store) (at : List ℕ → Printed) → AlikeStores m m' d.after.memory.bytes b
       → ((t : List ℕ) → Keeps m m' (List ℕ) (printed_from cs (at t)))
-      → AlikeDid m m' (List ℕ) (next (next_by r d (λ t T. done (at t) T)) (λ at T. printed_from cs at T))
-      (next (next_by r (record { answer = d.answer; after = at_bytes d.after b }) (λ t T. done (at t) T)) (λ at T. printed_from cs at T))
+      → AlikeDid m m' (List ℕ) (next (next_by r d (λ t T. answer_now (at t) T)) (λ at T. printed_from cs at T))
+      (next (next_by r (record { answer = d.answer; after = at_bytes d.after b }) (λ t T. answer_now (at t) T)) (λ at T. printed_from cs at T))
   taken_by-alike cs (Ok t) d b at h k = k t d.after b h
   taken_by-alike cs (Err y) d b at h k = record { bytes = b; is = refl; alike = h }
 
   taken-alike : (cs : List ℕ) (d d' : Did (List ℕ)) (at : List ℕ → Printed) → AlikeDid m m' (List ℕ) d d' → ((t : List ℕ) → Keeps m m' (List ℕ) (printed_from cs (at t)))
-      → AlikeDid m m' (List ℕ) (next (next d (λ t T. done (at t) T)) (λ at T. printed_from cs at T)) (next (next d' (λ t T. done (at t) T)) (λ at T. printed_from cs at T))
+      → AlikeDid m m' (List ℕ) (next (next d (λ t T. answer_now (at t) T)) (λ at T. printed_from cs at T)) (next (next d' (λ t T. answer_now (at t) T)) (λ at T. printed_from cs at T))
   taken-alike cs d d' at h k =
-      subst (λ x. AlikeDid m m' (List ℕ) (next (next d (λ t T. done (at t) T)) (λ at T. printed_from cs at T)) (next (next x (λ t T. done (at t) T)) (λ at T. printed_from cs at T)))
+      subst (λ x. AlikeDid m m' (List ℕ) (next (next d (λ t T. answer_now (at t) T)) (λ at T. printed_from cs at T)) (next (next x (λ t T. answer_now (at t) T)) (λ at T. printed_from cs at T)))
       (sym h.is) (taken_by-alike cs d.answer d h.bytes at h.alike k)
 
   -- 7.21.6.1p3: the format from a place on
@@ -132,7 +132,7 @@ module _ (m m' : Known) where
 
   literal-same : (M : Mem) (b : Store) (o : Option Info) → AlikeStores m m' M.bytes b → literal_bytes (record M { bytes = b }) o ≡ literal_bytes M o
   literal-same M b None h = refl
-  literal-same M b (Some x) h = zero-same (read M.bytes x.base x.size) (read b x.base x.size) (alike_read m m' M.bytes b x.base x.size h)
+  literal-same M b (Some x) h = zero-same (bytes_from M.bytes x.base x.size) (bytes_from b x.base x.size) (alike_read m m' M.bytes b x.base x.size h)
 
   format-same : (M : Mem) (b : Store) (p : Prov) → AlikeStores m m' M.bytes b → format_of (record M { bytes = b }) p ≡ format_of M p
   format-same M b (Inst i) h = literal-same M b (info_of (instance_at M.table.instances i)) h
@@ -144,7 +144,7 @@ module _ (m m' : Known) where
       → AlikeDid m m' (List ℕ) (printed_from cs at S) (printed_from cs' at (at_bytes S b))
   format-alike cs cs' at S b e h = at_one (λ x. AlikeDid m m' (List ℕ) (printed_from cs at S) (printed_from x at (at_bytes S b))) cs cs' e h
 
-  pub printed-keeps : (args : List Arg) → Keeps m m' (List ℕ) (printed args)
+  pub printed-keeps : (args : List Arg) → Keeps m m' (List ℕ) (text_of_format args)
   printed-keeps args S b h =
       let p : Prov = (pointer args 0).prov in
       let cs : List ℕ = format_of S.memory p in
@@ -152,5 +152,5 @@ module _ (m m' : Known) where
 
   pub printf-keeps : (args : List Arg) → Keeps m m' Reply (printf args)
   printf-keeps args S b h =
-      next-alike m m' (List ℕ) Reply _ _ (λ text T. done (reply.Value (value.Int (convert_of kind.Int (pos (length text))))) T) (printed-keeps args S b h)
+      next-alike m m' (List ℕ) Reply _ _ (λ text T. answer_now (reply.Value (value.Int (convert_of kind.Int (pos (length text))))) T) (printed-keeps args S b h)
       (λ text. done-keeps m m' Reply (reply.Value (value.Int (convert_of kind.Int (pos (length text))))))

@@ -20,7 +20,7 @@ use Rattle.pv_watch.specs.declared.event.What.{What}
 use Rattle.pv_world.specs.declared.got.Shape.{Shape}
 use Rattle.pv_world.specs.declared.got.Shape.TheVariants as shape
 use Rattle.pv_world.specs.Worlds.{Worth, World, with_table}
-use Rattle.pv_world.specs.Telling.{Told, quiet, telling, all_told}
+use Rattle.pv_world.specs.Telling.{Told, no_telling, telling, all_told}
 use Rattle.pv_world.specs.Doing.{Done}
 use Rattle.pv_world.specs.Worths.{value_of, bytes_of}
 use Rattle.pv_world.specs.ObjectParts.{with_bytes}
@@ -78,7 +78,7 @@ module _ (m m' : Known) where
   pub takes_bytes-alike : (offset size : ℕ) (s : Shape) (v v' : Worth) → AlikeWorth m m' v v' → (w : World) (b : Store) → Alikes m m' w b
       → AlikeDone m m' (takes_bytes offset size s v w) (takes_bytes offset size s v' (with_bytes w b))
   takes_bytes-alike offset size s v v' g w b h =
-      present_alike m m' w b v v' _ _ h g (worth_in-alike w b (take size (drop offset (bytes_of v))) (take size (drop offset (bytes_of v'))) s None None quiet
+      present_alike m m' w b v v' _ _ h g (worth_in-alike w b (take size (drop offset (bytes_of v))) (take size (drop offset (bytes_of v'))) s None None no_telling
       (alike_take m m' size (drop offset (bytes_of v)) (drop offset (bytes_of v')) (alike_drop m m' offset (bytes_of v) (bytes_of v') (bytes-alike m m' v v' g))) h)
 
   -- 6.5p6: the marks of a store

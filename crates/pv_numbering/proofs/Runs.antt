@@ -29,7 +29,7 @@ use Rattle.pv_exec.specs.Calls.{take_params, value_by, runs_body, call_body, bel
 use Rattle.pv_exec.specs.CallParts.{is_main}
 use Rattle.pv_exec.specs.Preparing.{make_static, store_constant, store_static, prepare}
 use Rattle.pv_exec.specs.Lists.{make_statics, make_literals, make_functions, store_statics, initialize_statics}
-use Rattle.pv_exec.specs.Run.{first, call_main, run_of, status_of, outcome_of, sides_at}
+use Rattle.pv_exec.specs.Run.{initial_state, call_main, run_of, status_of, outcome_of, sides_at}
 use Rattle.pv_numbering.proofs.Marks.{AlikeAt}
 use Rattle.pv_numbering.proofs.Alike.{with_types, AlikeWorth, AlikeWorths, AlikeState, AlikeRes}
 use Rattle.pv_numbering.proofs.Acts.{ActsAlike}
@@ -52,8 +52,8 @@ constant-alike : (m m' : Known) (s s' : State) (q : Const) → AlikeState m m' s
 constant-alike m m' s s' q h = subst (λ (z : State). AlikeWorth m m' (constant_worth s.world q) (constant_worth z.world q)) (sym h.is) (constant-at m m' s.world h.bytes q)
 
 -- before a run there are no bytes
-first-alike : (m m' : Known) (script : List ScriptLine) (zap : Bool) → AlikeState m m' (first script zap) (first script zap)
-first-alike m m' script zap = record { bytes = (first script zap).world.memory.bytes; is = refl; alike = λ a. subst (λ (x : Option Byte). AlikeAt m m' x x) (sym (get-empty nat_cmp a)) tt }
+first-alike : (m m' : Known) (script : List ScriptLine) (zap : Bool) → AlikeState m m' (initial_state script zap) (initial_state script zap)
+first-alike m m' script zap = record { bytes = (initial_state script zap).world.memory.bytes; is = refl; alike = λ a. subst (λ (x : Option Byte). AlikeAt m m' x x) (sym (get-empty nat_cmp a)) tt }
 
 module _ {b : Setting} {m' : Known} (acts : ActsAlike b m') (unit : AllUnit (AlikeType b m') b.unit) where
   abbrev c : Setting
@@ -153,7 +153,7 @@ module _ {b : Setting} {m' : Known} (acts : ActsAlike b m') (unit : AllUnit (Ali
 -- 5.1.2.3: the two runs differ in the marks of bytes alone
 pub run-alike : (b : Setting) (m' : Known) → ActsAlike b m' → AllUnit (AlikeType b m') b.unit → (script : List ScriptLine) → AlikeRes b.types m' (AlikeWorth b.types m') (run_of b script) (run_of (with_types b m') script)
 unfolding run_of
-run-alike b m' acts unit script = (whole-alike acts unit).at (first script b.zap) (first script b.zap) (first-alike b.types m' script b.zap)
+run-alike b m' acts unit script = (whole-alike acts unit).at (initial_state script b.zap) (initial_state script b.zap) (first-alike b.types m' script b.zap)
 
 -- the reason alone tells how a run that was stopped ended
 stopped-same : (y : Why) (s s' : State) → outcome_of (Stops y s') ≡ outcome_of (Stops y s)

@@ -12,8 +12,8 @@ use Rattle.pv_world.specs.Worths.{is_true, int_of}
 use Rattle.pv_eval.specs.States.{Setting, State, Res, then_do, tick}
 use Rattle.pv_eval.specs.TypeForms.{lvalue, size_of}
 use Rattle.pv_eval.specs.Operations.{Tests, Accepts, Needs, Makes, Ends, Fills, Puts, PutsText}
-use Rattle.pv_exec.specs.Flows.{Flow, Falls, Breaks, Continues, Returns, Below, full, testing, falls, goes_on, switched, stores_value, begin_fill, declares, if_tested, stepped, round, round_do, returns_value}
-use Rattle.pv_exec.specs.Blocks.{end_all, scoped}
+use Rattle.pv_exec.specs.Flows.{Flow, Falls, Breaks, Continues, Returns, Below, full_expression, testing, falls, goes_on, behind_switch, stores_value, begin_fill, declares, if_tested, then_step, round, round_do, returns_value}
+use Rattle.pv_exec.specs.Blocks.{end_all, in_block}
 use Rattle.pv_exec.specs.Lists.{make_all, store_all}
 use Rattle.pv_exec.specs.Labels.{Target, ToCase, ToDefault, ToNone, target_of, is_target, unless_none}
 use Rattle.pv_exec.specs.Execution.{ex, exs, exs_at}
@@ -40,7 +40,7 @@ pub record Beneath (b : Setting) (m' : Known) (u u' : Below) : Type 0 where
 
 -- what a `switch` with this value does
 abbrev selects : Setting → Below → List ℕ → Statements → ℤ → State → Res Flow
-selects b u os xs n = unless_none (target_of n xs) (λ s. tick b s (λ s. then_do (scoped b os (λ s. exs_at b u (target_of n xs) xs s) s) switched))
+selects b u os xs n = unless_none (target_of n xs) (λ s. tick b s (λ s. then_do (in_block b os (λ s. exs_at b u (target_of n xs) xs s) s) behind_switch))
 
 module _ {b : Setting} {m' : Known} (acts : ActsAlike b m') where
   abbrev c : Setting
@@ -66,7 +66,7 @@ module _ {b : Setting} {m' : Known} (acts : ActsAlike b m') where
   going (Returns v) (Returns v') f h = gives (Returns v) (Returns v') f
   going fl fl' f h = absurd f
 
-  switching : (fl fl' : Flow) → Left fl fl' → Pieces b m' Left (switched fl) (switched fl')
+  switching : (fl fl' : Flow) → Left fl fl' → Pieces b m' Left (behind_switch fl) (behind_switch fl')
   switching Falls Falls f = gives Falls Falls tt
   switching Breaks Breaks f = gives Falls Falls tt
   switching Continues Continues f = gives Continues Continues tt
@@ -86,17 +86,17 @@ module _ {b : Setting} {m' : Known} (acts : ActsAlike b m') where
   end-alike [] = gives Nothing Nothing tt
   end-alike (o ∷ os) = seq (did (Ends o) (Ends o) (object_at b.unit o).line (acts.ends o)) (λ v v' e. end-alike os)
 
-  scoped-alike : {m n : State → Res Flow} (os : List ℕ) → Pieces b m' Left m n → Pieces b m' Left (scoped b os m) (scoped c os n)
+  scoped-alike : {m n : State → Res Flow} (os : List ℕ) → Pieces b m' Left m n → Pieces b m' Left (in_block b os m) (in_block c os n)
   scoped-alike os h = seq (make-alike os) (λ v v' e. seq h (λ fl fl' f. seq (end-alike os) (λ v v' e. gives fl fl' f)))
 
   module _ (unit : AllUnit (AlikeType b m') b.unit) (u u' : Below) (below : Beneath b m' u u') where
-    full-alike : (x : TypedTree) → AllTypes (AlikeType b m') x → Pieces b m' Same (full b u.call x) (full c u'.call x)
+    full-alike : (x : TypedTree) → AllTypes (AlikeType b m') x → Pieces b m' Same (full_expression b u.call x) (full_expression c u'.call x)
     full-alike x p = seq (ev-alike acts u.call u'.call below.call x p []) (λ g g' e. gives g.value g'.value e.value)
 
     testing-alike : (x : TypedTree) → AllTypes (AlikeType b m') x → Pieces b m' Same (testing b u.call x) (testing c u'.call x)
     testing-alike x p = seq (full-alike x p) (λ v v' e. did (Tests v) (Tests v') (line_of x) (acts.tests v v' e))
 
-    stepped-alike : {m n : State → Res Flow} (x : Option TypedTree) → AllOption (AlikeType b m') x → Pieces b m' Left m n → Pieces b m' Left (stepped b u.call x m) (stepped c u'.call x n)
+    stepped-alike : {m n : State → Res Flow} (x : Option TypedTree) → AllOption (AlikeType b m') x → Pieces b m' Left m n → Pieces b m' Left (then_step b u.call x m) (then_step c u'.call x n)
     stepped-alike None p h = h
     stepped-alike (Some x) p h = seq (full-alike x p) (λ v v' e. h)
 

@@ -8,7 +8,7 @@ use Rattle.pv_types.specs.Ty.{Ty, Tys, VoidTy, IntTy, PointerTo, ArrayOf, Struct
 use Rattle.pv_types.specs.Layouts.{Named, Completed}
 use Rattle.pv_types.specs.Known.{DoneTag, at, tys_in, tree_in, trees_of, named_in, completed_in}
 use Rattle.pv_types.specs.KnownParts.{list_at}
-use Rattle.pv_typed.specs.Built.{built}
+use Rattle.pv_typed.specs.Built.{row_by_row}
 use Rattle.pv_numbering.proofs.Entries.{NodeTables, Filled, Puts, longer_same, longer_push, filled_on, kept, made, beside, paired, found, found_built}
 
 -- the types of the tables
@@ -30,8 +30,8 @@ types_at s ts = tys_in (types s) ts
 abbrev pub params_at : NodeTables → ℕ → Tys
 params_at s p = types_at s (list_at s.params p)
 
-trees_built : (ls : List (List TypeId)) (terms : List Term) → trees_of ls terms ≡ built (tree_in ls) terms
-unfolding trees_of built
+trees_built : (ls : List (List TypeId)) (terms : List Term) → trees_of ls terms ≡ row_by_row (tree_in ls) terms
+unfolding trees_of row_by_row
 trees_built ls terms = refl
 
 -- the tables with one more term

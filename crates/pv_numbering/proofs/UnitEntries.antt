@@ -13,7 +13,7 @@ use Rattle.pv_typed.specs.declared.entries.InitValue.{InitValue}
 use Rattle.pv_typed.specs.declared.entries.InitValue.TheVariants as value
 use Rattle.pv_typed.specs.TypedStatement.{TypedStatement}
 use Rattle.pv_typed.specs.TypedUnits.{WholeUnit, Store, StoredValue, ValueOf, TextOf, TypedObject, TypedFunction, Literal}
-use Rattle.pv_typed.specs.Tables.{Stored, value_in, store_in, object_in, function_in, whole, body_in, literal_in}
+use Rattle.pv_typed.specs.Tables.{Stored, value_in, store_in, object_in, function_in, whole_unit, body_in, literal_in}
 use Rattle.pv_numbering.proofs.Entries.{NodeTables, Put, Puts, filled_same, kept, made, beside, paired, each_put}
 use Rattle.pv_numbering.proofs.TypeEntries.{type_at, put_type, completions, put_completions}
 use Rattle.pv_numbering.proofs.NodeEntries.{known_of, nodes_of, expression, statement, put_expression, put_statement}
@@ -118,12 +118,12 @@ module _ (w : WholeUnit) where
     declarations = w.declarations;
   }
 
-  tables_whole : whole tables_of ≡ w
+  tables_whole : whole_unit tables_of ≡ w
   tables_whole =
-      ap (λ (cs : List Completed). record (whole tables_of) { completed = cs }) (completed.is entered.behind entered.filled)
-      ∙ ap (λ (p : List TypedObject × (List TypedFunction × List Ty)). record (whole tables_of) { completed = w.completed; objects = p.0; functions = p.1.0; tags = p.1.1 }) (entered.is entered.behind (filled_same entered.behind))
+      ap (λ (cs : List Completed). record (whole_unit tables_of) { completed = cs }) (completed.is entered.behind entered.filled)
+      ∙ ap (λ (p : List TypedObject × (List TypedFunction × List Ty)). record (whole_unit tables_of) { completed = w.completed; objects = p.0; functions = p.1.0; tags = p.1.1 }) (entered.is entered.behind (filled_same entered.behind))
       ∙ ap (λ (ls : List Literal). record w { literals = ls }) (literals_read w.literals)
 
   -- tables that stand for the unit
-  pub has_tables : (u : Stored) × (whole u ≡ w)
+  pub has_tables : (u : Stored) × (whole_unit u ≡ w)
   has_tables = (tables_of, tables_whole)

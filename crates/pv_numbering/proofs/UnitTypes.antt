@@ -19,9 +19,9 @@ use Rattle.pv_typed.specs.declared.rows.Row.{Row}
 use Rattle.pv_typed.specs.TypedUnits.{TypedFunction}
 use Rattle.pv_typed.specs.Nodes.{Tree, OfExpression, OfStatement, as_expression, as_statement, expression_in, statement_in, optional_in, arguments_in, statements_in, list_in, form_in, statement_form, what_in, tree_in}
 use Rattle.pv_typed.specs.NodeParts.{at}
-use Rattle.pv_typed.specs.Built.{built}
+use Rattle.pv_typed.specs.Built.{row_by_row}
 use Rattle.pv_typed.specs.Known.{Each}
-use Rattle.pv_typed.specs.Tables.{Stored, nodes, value_in, store_in, object_in, function_in, whole, trees_of, base, body_in}
+use Rattle.pv_typed.specs.Tables.{Stored, nodes, value_in, store_in, object_in, function_in, whole_unit, trees_of, base, body_in}
 use Rattle.pv_typed.proofs.Each.{each_append}
 use Rattle.pv_numbering.proofs.Types.{AllTypes, AllForm, AllArguments, AllOption, AllStatement, AllStatements, AllValue, AllStore, AllObject, AllBody, AllUnit}
 use Rattle.pv_numbering.proofs.Folds.{fold_keeps, each_or, each_mapped, each_always}
@@ -122,7 +122,7 @@ module _ (P : Ty → Type 0) (of_void : P VoidTy) (s : Stored) (of_tree : (i : �
   all_what ts h line (what.Statement x declared) = all_statement_form P of_void ts h s.lists line (slice_index_or s.blocks declared []) x
 
   all_rows : (rows : List Row) → Each (AllTree P) (trees_of (base s) rows)
-  unfolding built
+  unfolding row_by_row
   all_rows rows =
       fold_keeps (tree_in (base s)) (λ (r : Row). Unit {0}) (Each (AllTree P))
       (λ ts r q h. each_append (AllTree P) ts (tree_in (base s) ts r ∷ []) h (all_what ts h r.line r.what, tt))
@@ -148,7 +148,7 @@ module _ (P : Ty → Type 0) (of_void : P VoidTy) (s : Stored) (of_tree : (i : �
   all_body None = tt
   all_body (Some n) = all_statement P of_void (nodes s) all_nodes n
 
-  pub all_whole : AllUnit P (whole s)
+  pub all_whole : AllUnit P (whole_unit s)
   all_whole = record {
     objects = each_mapped (object_in s.known (nodes s)) (λ (e : Object × List Init). Unit {0}) (AllObject P) (λ e q. all_object e) s.objects (each_always _ (λ e. tt) s.objects);
     functions = each_mapped (function_in s.known (nodes s)) (λ (e : Function × List ℕ). Unit {0}) (λ (f : TypedFunction). AllBody P f.body) (λ e q. all_body e.0.body) s.functions (each_always _ (λ e. tt) s.functions);

@@ -4,7 +4,7 @@ use Rattle.pv_types.specs.Known.{Known}
 use Rattle.pv_shadow.specs.declared.byte.Byte.{Byte}
 use Rattle.pv_object.specs.declared.values.Value.{Value}
 use Rattle.pv_world.specs.Worlds.{Worth, Nothing, Missing, Scalar, Whole}
-use Rattle.pv_world.specs.Worths.{int_of, pointer_of, value_of, bytes_of, unplain, unpresent}
+use Rattle.pv_world.specs.Worths.{int_of, pointer_of, value_of, bytes_of, why_not_set, why_missing}
 use Rattle.pv_numbering.proofs.Marks.{AlikeBytes}
 use Rattle.pv_numbering.proofs.Alike.{AlikeWorth}
 
@@ -43,11 +43,11 @@ module _ (m m' : Known) where
   pub value-same : (v v' : Worth) → AlikeWorth m m' v v' → value_of v' ≡ value_of v
   value-same = same_on value_of (λ xs xs' a. refl)
 
-  pub unplain-same : (v v' : Worth) → AlikeWorth m m' v v' → unplain v' ≡ unplain v
-  unplain-same = same_on unplain (λ xs xs' a. refl)
+  pub unplain-same : (v v' : Worth) → AlikeWorth m m' v v' → why_not_set v' ≡ why_not_set v
+  unplain-same = same_on why_not_set (λ xs xs' a. refl)
 
-  pub unpresent-same : (v v' : Worth) → AlikeWorth m m' v v' → unpresent v' ≡ unpresent v
-  unpresent-same = same_on unpresent (λ xs xs' a. refl)
+  pub unpresent-same : (v v' : Worth) → AlikeWorth m m' v v' → why_missing v' ≡ why_missing v
+  unpresent-same = same_on why_missing (λ xs xs' a. refl)
 
   pub bytes-alike : (v v' : Worth) → AlikeWorth m m' v v' → AlikeBytes m m' (bytes_of v) (bytes_of v')
   bytes-alike = by_worths (λ v v'. AlikeBytes m m' (bytes_of v) (bytes_of v')) tt tt (λ v. tt) (λ xs xs' a h. h)

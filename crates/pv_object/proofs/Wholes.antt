@@ -9,7 +9,7 @@ use Rattle.pv_shadow.specs.Whole.{whole_name, number_in}
 use Rattle.pv_shadow.specs.Readings.{pointer_in}
 use Rattle.pv_object.specs.declared.values.Pointer.{Pointer}
 use Rattle.pv_object.specs.declared.values.Scalar.TheVariants as scalar
-use Rattle.pv_object.specs.Loading.{value_of, pointer_of, pointer_named, tested}
+use Rattle.pv_object.specs.Loading.{value_of, pointer_of, pointer_named, loaded_test}
 use Rattle.pv_object.specs.Loads.{whole_pointer}
 use Rattle.pv_object.proofs.Contents.{whole_made}
 
@@ -40,5 +40,5 @@ pub pointer_made : (P : Prov → Type 0) (bytes : List Byte) (q : Pointer) → A
 pointer_made P bytes q all e = whole_made P bytes q.prov all (sym (whole_parts bytes q e).1)
 
 -- a load of the bytes is the live test of the pointer
-pub whole_load : (T : Table) (bytes : List Byte) (q : Pointer) → Some q ≡ whole_pointer bytes → value_of T bytes scalar.Pointer ≡ tested T q
+pub whole_load : (T : Table) (bytes : List Byte) (q : Pointer) → Some q ≡ whole_pointer bytes → value_of T bytes scalar.Pointer ≡ loaded_test T q
 whole_load T bytes q e = let k = whole_parts bytes q e in ap (pointer_of T bytes) k.0 ∙ ap (λ o. pointer_named T o q.address) k.1

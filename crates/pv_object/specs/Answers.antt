@@ -12,7 +12,7 @@ use Rattle.pv_inst.specs.declared.values.CreateError.TheVariants.{NoMemory}
 use Rattle.pv_inst.specs.declared.values.Instance.{Instance}
 use Rattle.pv_inst.specs.declared.values.Tried.{Tried}
 use Rattle.pv_inst.specs.declared.values.Miss.{Miss}
-use Rattle.pv_inst.specs.Use.{untried}
+use Rattle.pv_inst.specs.Use.{empty_use}
 use Rattle.pv_object.specs.Memory.{Mem}
 use Rattle.pv_object.specs.declared.values.Stop.{Stop}
 use Rattle.pv_object.specs.declared.values.Stopped.{Stopped}
@@ -26,8 +26,8 @@ use Rattle.pv_object.specs.Copying.{with_bytes}
 use Rattle.pv_object.specs.declared.values.Value.TheVariants as value
 
 -- 6.2.4p2: the instance that is meant, if it is live
-abbrev pub meant : Table → Option ℕ → Option Info
-meant T o = option_and_then (λ i. info_of (instance_at T.instances i)) o
+abbrev pub instance_meant : Table → Option ℕ → Option Info
+instance_meant T o = option_and_then (λ i. info_of (instance_at T.instances i)) o
 
 -- this answer and this memory (memory model); after want of memory the memory isn't used again
 abbrev pub OrSpent : Result ℕ CreateError → Mem → Result ℕ CreateError × Mem → Type 0
@@ -39,13 +39,13 @@ abbrev pub HasSize : List Instance → (i size : ℕ) → Type 0
 HasSize xs i size = IsSomeAnd (instance_at xs i) (λ (x : Instance). x.size ≡ size)
 
 -- 6.5.6p9: the difference in elements, where it is whole; the quotient is exact then
-abbrev pub divided : ℤ → ℕ → Tried × Tried → Result (ℤ × Tried × Tried) Stop
-divided d size both =
+abbrev pub quotient_answer : ℤ → ℕ → Tried × Tried → Result (ℤ × Tried × Tried) Stop
+quotient_answer d size both =
     if int_eq (int_rem d (pos size)) (pos 0) then Ok (int_div d (pos size), both.0, both.1) else Err (fault clause.SubtractionOfPointers reason.Uneven)
 
 -- 6.5.6p9: the difference of the addresses, where both are into one instance
 abbrev pub subtract_by : Pointer → Pointer → ℕ → Result (Tried × Tried) Stop → Result (ℤ × Tried × Tried) Stop
-subtract_by p q size (Ok both) = divided (pos p.address -ℤ pos q.address) size both
+subtract_by p q size (Ok both) = quotient_answer (pos p.address -ℤ pos q.address) size both
 subtract_by p q size (Err stop) = Err stop
 
 -- 6.5.6p9: the difference of two pointers into one storage instance, in elements of this size
@@ -53,8 +53,8 @@ abbrev pub subtract : Table → Pointer → Pointer → ℕ → Result (ℤ × T
 subtract T p q size = let r = together clause.SubtractionOfPointers T p q in (subtract_by p q size r.0, r.1)
 
 -- 6.5.16.1p2, 6.2.6.1p4: the bytes of an object become those of the value that is stored
-abbrev pub stored : Mem → ℕ → Scalar → Value → Option ℕ → Mem
-stored M a t v mark = with_bytes M a (encode t v mark)
+abbrev pub after_storing : Mem → ℕ → Scalar → Value → Option ℕ → Mem
+after_storing M a t v mark = with_bytes M a (encode t v mark)
 
 -- the memory model: the provenance name of a pointer was made in this table
 abbrev pub IsMadeValue : Table → Value → Type 0
@@ -75,4 +75,4 @@ tried_in f (Err s) = s.tried
 -- the memory model: the survivors of a use, none where it has none
 abbrev pub survivors : Result Tried Miss → Tried
 survivors (Ok tried) = tried
-survivors (Err m) = untried
+survivors (Err m) = empty_use

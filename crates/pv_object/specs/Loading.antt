@@ -9,11 +9,11 @@ use Rattle.pv_prov.specs.declared.names.Prov.{Prov}
 use Rattle.pv_inst.specs.declared.values.Test.TheVariants.{Live}
 use Rattle.pv_inst.specs.declared.values.Tried.{Tried}
 use Rattle.pv_inst.specs.Table.{Table}
-use Rattle.pv_inst.specs.Use.{use_answer, settled, untried}
+use Rattle.pv_inst.specs.Use.{use_answer, after_use, empty_use}
 use Rattle.pv_inst.specs.Exposure.{expose}
 use Rattle.pv_inst.specs.Finding.{name_at, after_name}
 use Rattle.pv_shadow.specs.declared.byte.Byte.{Byte}
-use Rattle.pv_shadow.specs.Bytes.{read}
+use Rattle.pv_shadow.specs.Bytes.{bytes_from}
 use Rattle.pv_shadow.specs.Whole.{whole_name, number_in}
 use Rattle.pv_object.specs.declared.values.Pointer.{Pointer}
 use Rattle.pv_object.specs.declared.values.Scalar.{Scalar}
@@ -34,15 +34,15 @@ abbrev pub Loaded : Type 0
 Loaded = Result (Value × Tried) Stop × Table
 
 -- 6.2.4p2: the live test on a pointer just loaded, whose value is indeterminate where all candidates have ended
-abbrev pub tested : Table → Pointer → Loaded
-tested T p =
+abbrev pub loaded_test : Table → Pointer → Loaded
+loaded_test T p =
     let r = use_answer T p.prov Live in
-    (result_map_both (λ tried. (value.Pointer p, tried)) (λ _. fault clause.Lifetimes reason.Ended) r, settled T p.prov r)
+    (result_map_both (λ tried. (value.Pointer p, tried)) (λ _. fault clause.Lifetimes reason.Ended) r, after_use T p.prov r)
 
 -- the memory model: a pointer that was stored whole has its name; other bytes are a number that is converted (6.3.2.3p5)
 abbrev pub pointer_named : Table → Option Prov → ℕ → Loaded
-pointer_named T (Some p) a = tested T (record { address = a; prov = p })
-pointer_named T None a = tested (after_name T a) (record { address = a; prov = name_at T a })
+pointer_named T (Some p) a = loaded_test T (record { address = a; prov = p })
+pointer_named T None a = loaded_test (after_name T a) (record { address = a; prov = name_at T a })
 
 -- 6.2.6.1p5, 3.19.2: what bytes are worth at a pointer type; indeterminate where one has no value
 abbrev pub pointer_of : Table → List Byte → Option ℕ → Loaded
@@ -61,10 +61,10 @@ is_trap _ n = false
 -- 3.19.2, 6.2.6.1p5: a byte without a value is unset as a character, and indeterminate as any other integer. Its names are exposed
 -- (the memory model) behind the checks
 abbrev pub integer_of : Table → IntKind → List Byte → Option ℕ → Loaded
-integer_of T k bytes None = if is_character_kind k then (Ok (value.Unset, untried), exposed_by T bytes) else (Err (Ends Indeterminate), T)
+integer_of T k bytes None = if is_character_kind k then (Ok (value.Unset, empty_use), exposed_by T bytes) else (Err (Ends Indeterminate), T)
 integer_of T k bytes (Some n) =
     if is_trap k n then (Err (fault clause.Traps reason.Trap), T)
-    else (Ok (value.Int (convert_of k (pos n)), untried), exposed_by T bytes)
+    else (Ok (value.Int (convert_of k (pos n)), empty_use), exposed_by T bytes)
 
 -- 6.3.2.1p2: what bytes are worth at a scalar type, and what reading them does to the table
 abbrev pub value_of : Table → List Byte → Scalar → Loaded
@@ -73,4 +73,4 @@ value_of T bytes scalar.Pointer = pointer_of T bytes (number_in bytes)
 
 -- 6.3.2.1p2: a load reads the bytes from its address on. All bytes stay
 abbrev pub load : Mem → ℕ → Scalar → Loaded
-load M a t = value_of M.table (read M.bytes a (size_of t)) t
+load M a t = value_of M.table (bytes_from M.bytes a (size_of t)) t

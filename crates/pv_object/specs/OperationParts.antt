@@ -13,8 +13,8 @@ use Rattle.pv_inst.specs.declared.values.Instance.{Instance}
 use Rattle.pv_inst.specs.declared.values.Miss.{Miss}
 use Rattle.pv_inst.specs.declared.values.Tried.{Tried}
 use Rattle.pv_inst.specs.Table.{Table}
-use Rattle.pv_inst.specs.Use.{settled}
-use Rattle.pv_shadow.specs.Bytes.{spread, Store, cleared}
+use Rattle.pv_inst.specs.Use.{after_use}
+use Rattle.pv_shadow.specs.Bytes.{with_blanks, Store, without_bytes}
 use Rattle.pv_fault.specs.declared.faults.Clause.{Clause}
 use Rattle.pv_fault.specs.declared.faults.Reason.TheVariants as reason
 use Rattle.pv_fault.specs.declared.faults.Clause.TheVariants as clause
@@ -23,8 +23,8 @@ use Rattle.std.specs.Option.{option_map_or}
 use Rattle.std.specs.Result.{result_map_both}
 
 -- 6.5.6p8: the address so many bytes on
-abbrev pub moved : ℕ → ℤ → ℕ
-moved a by = as_address (pos a +ℤ by)
+abbrev pub address_on : ℕ → ℤ → ℕ
+address_on a by = as_address (pos a +ℤ by)
 
 -- 6.4.5p7, 6.7.3p6: nothing is read-only where no byte is written
 abbrev pub write_stop : (write : Bool) (n : ℕ) → Kind → Option Stop
@@ -32,11 +32,11 @@ write_stop write n kind = if write && not (n == 0) then readonly_stop kind else 
 
 -- 6.7.9p10: blank bytes for the instance
 abbrev pub blank_in : Option Instance → Store → Store
-blank_in x b = option_map_or (λ (x : Instance). spread b x.base x.size) x b
+blank_in x b = option_map_or (λ (x : Instance). with_blanks b x.base x.size) x b
 
 -- 6.2.4p2: the instance has no bytes
 abbrev pub cleared_in : Option Instance → Store → Store
-cleared_in x b = option_map_or (λ (x : Instance). cleared b x.base x.size) x b
+cleared_in x b = option_map_or (λ (x : Instance). without_bytes b x.base x.size) x b
 
 -- 6.3.1.2, 6.5.3.3p5, 6.8.4.1p2: whether a pointer is not equal to 0, once its name passed the live test
 abbrev pub truth_by : Pointer → Result Tried Miss → Result (Bool × Tried) Stop
@@ -64,4 +64,4 @@ live_answer p r = result_map_both (λ tried. (value.Pointer p, tried)) (λ _. fa
 
 -- 6.5.2.2p1, 6.2.4p2: the test for a function at the pointer's address
 abbrev pub code_at : Table → Pointer → Result Tried Miss → Result (ℕ × Tried) Stop × Table
-code_at T p r = (code_by (stands T.pairs p.prov) r, settled T p.prov r)
+code_at T p r = (code_by (stands T.pairs p.prov) r, after_use T p.prov r)

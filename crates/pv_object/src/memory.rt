@@ -1,29 +1,29 @@
 // The memory: its instances, accesses to them, and the steps that change its table.
 ghost use Rattle.std.specs.Prelude.{◌≡◌, ◌+◌, ◌<◌, ◌≤◌, ◌↔◌, ◌^◌, length, replicate, take, All, IfOk, IfSome, IfNone, OnOk, OnErr, true, codes, option_to_list, drop, ◌++◌, [], not};
 ghost use Rattle.pv_prov.specs.declared.names.Prov.{Prov};
-ghost use Rattle.pv_prov.specs.Names.{kept};
+ghost use Rattle.pv_prov.specs.Names.{after_narrowing};
 ghost use Rattle.pv_prov.specs.Made.{Stands_low, Stands_high};
 ghost use Rattle.pv_script.specs.Names.{name_at as text_of};
 ghost use Rattle.pv_inst.specs.Table.{IsMadeIn};
-ghost use Rattle.pv_inst.specs.Use.{use_answer, settled, is_heap};
+ghost use Rattle.pv_inst.specs.Use.{use_answer, after_use, is_heap};
 ghost use Rattle.pv_inst.specs.TwoPointers.{same_answer, after_same};
 ghost use Rattle.pv_inst.specs.Answers.{IsLive};
 ghost use Rattle.pv_inst.specs.Exposure.{expose};
 ghost use Rattle.pv_inst.specs.Finding.{name_at, after_name};
-ghost use Rattle.pv_shadow.specs.Bytes.{read};
+ghost use Rattle.pv_shadow.specs.Bytes.{bytes_from};
 ghost use Rattle.pv_shadow.specs.Readings.{HasBytes, nameless_number, HasDigits, are_marked};
 ghost use Rattle.pv_object.specs.Memory.{Mem, with_table, empty_memory};
 ghost use Rattle.pv_object.specs.Reaching.{IsReach};
 ghost use Rattle.pv_object.specs.Later.{IsLater};
 ghost use Rattle.pv_object.specs.Values.{IsOf};
-ghost use Rattle.pv_object.specs.Answers.{IsMadeValue, stored, OrSpent, HasSize, without_use, tried_in, survivors};
+ghost use Rattle.pv_object.specs.Answers.{IsMadeValue, after_storing, OrSpent, HasSize, without_use, tried_in, survivors};
 ghost use Rattle.pv_object.specs.Encoding.{size_of, encode};
 ghost use Rattle.pv_object.specs.Access.{reach};
-ghost use Rattle.pv_object.specs.Loading.{value_of, load, exposed_by, tested, integer_of, pointer_of};
+ghost use Rattle.pv_object.specs.Loading.{value_of, load, exposed_by, loaded_test, integer_of, pointer_of};
 ghost use Rattle.pv_object.specs.Loads.{loaded_name, whole_pointer, MakesPair, FitsTwo, OrNoPair};
-ghost use Rattle.pv_object.specs.Copying.{with_bytes, copied};
-ghost use Rattle.pv_object.specs.Creating.{created, without};
-ghost use Rattle.pv_shadow.specs.Whole.{pointed, little_endian, number_in};
+ghost use Rattle.pv_object.specs.Copying.{with_bytes, after_copy};
+ghost use Rattle.pv_object.specs.Creating.{creation, without};
+ghost use Rattle.pv_shadow.specs.Whole.{pointer_bytes, little_endian, number_in};
 ghost use Rattle.pv_object.specs.declared.values.Scalar.{Scalar as Form};
 ghost use Rattle.pv_object.specs.declared.values.Value.{Value as Stored};
 
@@ -68,7 +68,7 @@ fn first_bytes(bytes: &Bytes, a: u64, n: usize) -> [Byte; 8]
     requires few { n ≤ 8 }
     requires there { HasBytes bytes.now a n }
     requires within { a + n < 2 ^ 64 }
-    ensures { take n result ≡ read bytes.now a n }
+    ensures { take n result ≡ bytes_from bytes.now a n }
 {
     let mut first = [BLANK; 8];
     bytes.read(a, &mut first[..n]);
@@ -79,7 +79,7 @@ fn first_bytes(bytes: &Bytes, a: u64, n: usize) -> [Byte; 8]
 fn fetch(alloc: Global, bytes: &Bytes, a: u64, n: u64) -> Result<Vec<Byte>, NoMemory>
     requires there { HasBytes bytes.now a n }
     requires within { a + n < 2 ^ 64 }
-    ensures { IfOk result (λ v. v.items ≡ read bytes.now a n) }
+    ensures { IfOk result (λ v. v.items ≡ bytes_from bytes.now a n) }
 {
     let mut copy = vec![in alloc; BLANK; n as usize]?;
     bytes.read(a, &mut copy);
@@ -110,7 +110,7 @@ impl Memory {
     pub(crate) fn narrow(&mut self, p: Prov, test: Test) -> Result<Tried, Miss>
         requires { IsMadeIn self.old.table p }
         ensures answer { result ≡ use_answer self.old.table p test }
-        ensures state { self.new ≡ with_table self.old (settled self.old.table p result) }
+        ensures state { self.new ≡ with_table self.old (after_use self.old.table p result) }
         ensures later { IsLater self.old.table self.new.table }
         ensures keeps { (q : Prov) → IsMadeIn self.old.table q → IsMadeIn self.new.table q }
     {
@@ -155,7 +155,7 @@ impl Memory {
     pub fn block(&mut self, p: Pointer) -> Result<Tried, Miss>
         requires { IsMadeIn self.old.table p.prov }
         ensures answer { result ≡ use_answer self.old.table p.prov (Test.Block p.address) }
-        ensures state { self.new ≡ with_table self.old (settled self.old.table p.prov result) }
+        ensures state { self.new ≡ with_table self.old (after_use self.old.table p.prov result) }
         ensures later { IsLater self.old.table self.new.table }
     {
         let address = p.address;
@@ -167,7 +167,7 @@ impl Memory {
         requires made { IsMadeIn self.old.table (Prov.Pair pair) }
         requires low_stands { Stands_low self.old.table.pairs pair }
         requires high_stands { Stands_high self.old.table.pairs pair }
-        ensures state { self.new ≡ with_table self.old (record self.old.table { pairs = kept self.old.table.pairs pair (not high) high }) }
+        ensures state { self.new ≡ with_table self.old (record self.old.table { pairs = after_narrowing self.old.table.pairs pair (not high) high }) }
         ensures later { IsLater self.old.table self.new.table }
     {
         self.table.side(pair, high);
@@ -202,7 +202,7 @@ impl Memory {
         requires sized { 1 ≤ size }
         requires aligned { 1 ≤ align }
         requires heap { (text_of names.now name ≡ codes "@heap") ↔ (is_heap kind ≡ true) }
-        ensures answer { OrSpent result self.new (created self.old (record {
+        ensures answer { OrSpent result self.new (creation self.old (record {
           text = text_of names.now name;
           name = name;
           size = size;
@@ -295,7 +295,7 @@ impl Memory {
     /// `Indeterminate` exactly where a byte that is needed has no value; `NoMemory` only where a new pair is made.
     pub fn load(&mut self, at: &Reach, t: Scalar) -> Result<(Value, Tried), Stop>
         requires { IsReach self.old.table at.now (size_of t) }
-        ensures answer { OrNoPair (MakesPair self.old.table (read self.old.bytes at.now.address (size_of t)) t) result self.old.table self.new.table (load self.old at.now.address t) }
+        ensures answer { OrNoPair (MakesPair self.old.table (bytes_from self.old.bytes at.now.address (size_of t)) t) result self.old.table self.new.table (load self.old at.now.address t) }
         ensures bytes { self.new.bytes ≡ self.old.bytes }
         ensures later { IsLater self.old.table self.new.table }
         ensures made { IfOk result (λ r. IsMadeValue self.new.table r.0) }
@@ -341,7 +341,7 @@ impl Memory {
     #[tactic(auto, using(crate::proofs::Wholes::whole_is, crate::proofs::Wholes::none_is))]
     pub fn whole_pointer(&self, at: &Reach) -> Option<Pointer>
         requires { IsReach self.now.table at.now 8 }
-        ensures answer { result ≡ whole_pointer (read self.now.bytes at.now.address 8) }
+        ensures answer { result ≡ whole_pointer (bytes_from self.now.bytes at.now.address 8) }
         ensures made { IfSome result (λ p. IsMadeIn self.now.table p.prov) }
     {
         self.table.well_formed();
@@ -357,7 +357,7 @@ impl Memory {
     pub fn number(&self, at: &Reach, n: u64) -> Option<u64>
         requires few { n ≤ 8 }
         requires reached { IsReach self.now.table at.now n }
-        ensures { result ≡ nameless_number (read self.now.bytes at.now.address n) }
+        ensures { result ≡ nameless_number (bytes_from self.now.bytes at.now.address n) }
     {
         self.table.well_formed();
         self.bytes.number(at.address, n)
@@ -380,7 +380,7 @@ impl Memory {
         requires some { 1 ≤ n }
         requires few { n ≤ 8 }
         requires reached { IsReach self.now.table at.now n }
-        ensures { result ≡ are_marked (read self.now.bytes at.now.address n) t 0 }
+        ensures { result ≡ are_marked (bytes_from self.now.bytes at.now.address n) t 0 }
     {
         self.table.well_formed();
         self.bytes.is_marked(at.address, n, t)
@@ -448,8 +448,8 @@ impl Memory {
     /// The value of a pointer that was just loaded: it passes the live test, or its instances have ended (6.2.4p2).
     pub fn tested(&mut self, p: Pointer) -> Result<(Value, Tried), Stop>
         requires { IsMadeIn self.old.table p.prov }
-        ensures answer { result ≡ (tested self.old.table p).0 }
-        ensures state { self.new ≡ with_table self.old (tested self.old.table p).1 }
+        ensures answer { result ≡ (loaded_test self.old.table p).0 }
+        ensures state { self.new ≡ with_table self.old (loaded_test self.old.table p).1 }
         ensures later { IsLater self.old.table self.new.table }
         ensures made { IfOk result (λ r. IsMadeValue self.new.table r.0) }
     {
@@ -465,7 +465,7 @@ impl Memory {
         requires reached { IsReach self.old.table at.now (size_of t) }
         requires value { IsOf t v.now }
         requires made { IsMadeValue self.old.table v.now }
-        ensures { self.new ≡ stored self.old at.now.address t v.now mark }
+        ensures { self.new ≡ after_storing self.old at.now.address t v.now mark }
     {
         match (t, *v) {
             (Scalar::Pointer, Value::Pointer(p)) => self.store_pointer(at, p, mark),
@@ -480,7 +480,7 @@ impl Memory {
         requires reached { IsReach self.old.table at.now (size_of t) }
         requires value { IsOf t v.now }
         requires made { IsMadeValue self.old.table v.now }
-        ensures { self.new ≡ stored self.old at.now.address t v.now mark }
+        ensures { self.new ≡ after_storing self.old at.now.address t v.now mark }
     {
         let bytes = encoding::encode(t, v, mark);
         let size = encoding::size_of(t);
@@ -491,7 +491,7 @@ impl Memory {
     #[inline(always)]
     fn store_number(&mut self, at: &Reach, kind: IntKind, n: i128, mark: Option<u32>)
         requires { IsReach self.old.table at.now (size_of (Form.Int kind)) }
-        ensures { self.new ≡ stored self.old at.now.address (Form.Int kind) (Stored.Int n) mark }
+        ensures { self.new ≡ after_storing self.old at.now.address (Form.Int kind) (Stored.Int n) mark }
     {
         self.table.well_formed();
         let size = encoding::size_of(Scalar::Int(kind));
@@ -503,7 +503,7 @@ impl Memory {
     fn store_pointer(&mut self, at: &Reach, p: Pointer, mark: Option<u32>)
         requires reached { IsReach self.old.table at.now 8 }
         requires made { IsMadeIn self.old.table p.prov }
-        ensures { self.new ≡ with_bytes self.old at.now.address (pointed mark p.prov 0 (little_endian 8 p.address)) }
+        ensures { self.new ≡ with_bytes self.old at.now.address (pointer_bytes mark p.prov 0 (little_endian 8 p.address)) }
     {
         self.table.well_formed();
         self.bytes.put_pointer(at.address, p.address, p.prov, mark);
@@ -513,7 +513,7 @@ impl Memory {
     pub fn copy(&mut self, to: &Reach, from: &Reach, n: u64)
         requires target { IsReach self.old.table to.now n }
         requires source { IsReach self.old.table from.now n }
-        ensures { self.new ≡ copied self.old to.now.address from.now.address n }
+        ensures { self.new ≡ after_copy self.old to.now.address from.now.address n }
     {
         self.table.well_formed();
         self.bytes.copy(to.address, from.address, n);
@@ -523,7 +523,7 @@ impl Memory {
     #[inline(always)]
     pub fn read_bytes(&self, at: &Reach, n: u64) -> Result<Vec<Byte>, NoMemory>
         requires { IsReach self.now.table at.now n }
-        ensures bytes { IfOk result (λ v. v.items ≡ read self.now.bytes at.now.address n) }
+        ensures bytes { IfOk result (λ v. v.items ≡ bytes_from self.now.bytes at.now.address n) }
         ensures made { IfOk result (λ v. All (λ b. IsMadeIn self.now.table b.prov) v.items) }
     {
         self.table.well_formed();
@@ -534,7 +534,7 @@ impl Memory {
     #[inline(always)]
     pub fn read_into(&self, at: &Reach, into: &mut [Byte])
         requires { IsReach self.now.table at.now (length into.old) }
-        ensures bytes { into.new ≡ read self.now.bytes at.now.address (length into.old) }
+        ensures bytes { into.new ≡ bytes_from self.now.bytes at.now.address (length into.old) }
         ensures made { All (λ b. IsMadeIn self.now.table b.prov) into.new }
     {
         self.table.well_formed();

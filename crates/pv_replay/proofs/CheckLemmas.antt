@@ -10,7 +10,7 @@ use Rattle.std.specs.declared.alloc.AllocError.{AllocError}
 use Rattle.pv_serve.specs.declared.telling.Reply as declared
 use Rattle.pv_serve.specs.Replies.{Reply}
 use Rattle.pv_serve.specs.Replying.{reply_view}
-use Rattle.pv_replay.specs.Answers.{IsChecked, TooLong, Obeyed, Broken, accepted, rejected}
+use Rattle.pv_replay.specs.Answers.{IsChecked, TooLong, Obeyed, Broken, acceptance, rejection}
 
 short : (n : ℕ) → n ≤ 16777216 → n < 2 ^ 64
 short n le = omega arith
@@ -25,20 +25,20 @@ one_answer lines line apart bytes a b (TooLong more is) (Obeyed rows few journal
 one_answer lines line apart bytes a b (TooLong more is) (Broken n few bad is') = absurd (omega arith)
 one_answer lines line apart bytes a b (Obeyed rows few journal is) (TooLong more is') = absurd (omega arith)
 one_answer lines line apart bytes a b (Obeyed rows few journal is) (Obeyed others few' journal' is') =
-    is ∙ ap (λ (rs : List Row). accepted (length rs)) (lines bytes rows others (short (length bytes) few) journal journal') ∙ sym is'
+    is ∙ ap (λ (rs : List Row). acceptance (length rs)) (lines bytes rows others (short (length bytes) few) journal journal') ∙ sym is'
 one_answer lines line apart bytes a b (Obeyed rows few journal is) (Broken n few' bad is') = absurd (apart bytes rows n (short (length bytes) few) journal bad)
 one_answer lines line apart bytes a b (Broken n few bad is) (TooLong more is') = absurd (omega arith)
 one_answer lines line apart bytes a b (Broken n few bad is) (Obeyed rows few' journal is') = absurd (apart bytes rows n (short (length bytes) few) journal bad)
-one_answer lines line apart bytes a b (Broken n few bad is) (Broken m few' bad' is') = is ∙ ap rejected (line bytes n m (short (length bytes) few) bad bad') ∙ sym is'
+one_answer lines line apart bytes a b (Broken n few bad is) (Broken m few' bad' is') = is ∙ ap rejection (line bytes n m (short (length bytes) few) bad bad') ∙ sym is'
 
 -- what is told of a journal: as many rows as lines
 pub obeyed : (bytes : List ℕ) (names : List (List ℕ)) (lines : List Line) (n : ℕ) (r : Result declared.Reply AllocError) → length bytes ≤ 16777216 → IsJournal (rows_under names lines) bytes → n ≡ length lines
-    → IfOk r (λ a. reply_view a ≡ accepted n) → IfOk r (λ a. IsChecked bytes (reply_view a))
+    → IfOk r (λ a. reply_view a ≡ acceptance n) → IfOk r (λ a. IsChecked bytes (reply_view a))
 obeyed bytes names lines n (Err e) few is count told = tt
-obeyed bytes names lines n (Ok a) few is count told = Obeyed (rows_under names lines) few is (told ∙ ap accepted (count ∙ sym (length-map lines (row_under names))))
+obeyed bytes names lines n (Ok a) few is count told = Obeyed (rows_under names lines) few is (told ∙ ap acceptance (count ∙ sym (length-map lines (row_under names))))
 
 -- what is told of a text with this wrong line
 pub broken : (bytes : List ℕ) (line : ℕ) (r : Result declared.Reply AllocError) → length bytes ≤ 16777216 → IsBad bytes line
-    → IfOk r (λ a. reply_view a ≡ rejected line) → IfOk r (λ a. IsChecked bytes (reply_view a))
+    → IfOk r (λ a. reply_view a ≡ rejection line) → IfOk r (λ a. IsChecked bytes (reply_view a))
 broken bytes line (Err e) few bad told = tt
 broken bytes line (Ok a) few bad told = Broken line few bad told

@@ -9,7 +9,7 @@ use Rattle.pv_serve.specs.Comes.{source_limit}
 use Rattle.pv_serve.specs.Verdicts.{Verdict, Ended}
 use Rattle.pv_serve.specs.Judged.{Judged, script_limit}
 use Rattle.pv_serve.specs.Outside.{AnyRose, Sunk}
-use Rattle.pv_serve.specs.Answer.{OfFiles, needed, script_held}
+use Rattle.pv_serve.specs.Answer.{OfFiles, script_needed, script_held}
 use Rattle.pv_serve.specs.Replies.{Reply}
 use Rattle.pv_serve.specs.Replying.{WasTold, WasLost, HadNoRoom}
 use Rattle.pv_serve.specs.Serving.{AreRead}
@@ -26,8 +26,8 @@ if_some (Some x) P Q f h = f x h
 pub of_files : (file : List ℕ) (script : Option (List ℕ)) (held : List ℕ → Option (List ℕ)) (P Q : (source text : List ℕ) → Type 0)
     → ((source text : List ℕ) → P source text → Q source text) → OfFiles file script held P → OfFiles file script held Q
 of_files file script held P Q f h =
-    if_some (held file) (λ source. IfSome (needed source (script_held script held)) (P source)) (λ source. IfSome (needed source (script_held script held)) (Q source))
-    (λ source. if_some (needed source (script_held script held)) (P source) (Q source) (f source)) h
+    if_some (held file) (λ source. IfSome (script_needed source (script_held script held)) (P source)) (λ source. IfSome (script_needed source (script_held script held)) (Q source))
+    (λ source. if_some (script_needed source (script_held script held)) (P source) (Q source) (f source)) h
 
 -- ---- a source and its script
 

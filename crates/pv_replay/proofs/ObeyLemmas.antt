@@ -3,7 +3,7 @@ use Rattle.std.proofs.Common.{◌≡◌, ℕ, true, List, take, map, sym, ap, �
 use Rattle.std.specs.Prelude.{None}
 use Rattle.pv_script.specs.Lines.{ScriptLine}
 use Rattle.pv_typed.specs.Known.{Each}
-use Rattle.pv_typed.specs.Tables.{whole}
+use Rattle.pv_typed.specs.Tables.{whole_unit}
 use Rattle.pv_typed.specs.TypedUnits.{WholeUnit}
 use Rattle.pv_world.specs.Worlds.{Worth}
 use Rattle.pv_eval.specs.States.{Res, end_of}
@@ -23,7 +23,7 @@ pub run_obeys : (source : List ℕ) (unit : WholeUnit) (lines : List ScriptLine)
     → Comes source (Program unit) → IsFit runs.tables → Each FitsWords (end_of run).events → names ≡ unit.names → TellsAJournal (take wants (map event_of (end_of run).events)) names
 run_obeys source unit lines bound wants run names runs comes fit words named =
     let u = runs.tables in
-    let typed = program_typed source (whole u) (subst (λ (w : WholeUnit). Comes source (Program w)) (sym runs.stands) comes) in
+    let typed = program_typed source (whole_unit u) (subst (λ (w : WholeUnit). Comes source (Program w)) (sym runs.stands) comes) in
     let told : TellsAJournal (take wants (events_at u lines bound)) u.names =
     run_tells_first u lines bound wants (units_named source typed.0 typed.1 u typed.2 typed.3 fit.known) fit.filled
     (words_fit (run_end u lines bound).events (subst (λ (r : Res Worth). Each FitsWords (end_of r).events) runs.is words)) in

@@ -47,19 +47,19 @@ abbrev pub too_long : Reply
 too_long = record { status = 18; text = codes "journal size" ++ line_feed }
 
 -- docs/FORMATS.md, Journals: the reply to the journal of so many lines (the memory model)
-abbrev pub accepted : (events : ℕ) → Reply
-accepted n = record { status = 0; text = codes "journal ok events=" ++ (decimal n ++ line_feed) }
+abbrev pub acceptance : (events : ℕ) → Reply
+acceptance n = record { status = 0; text = codes "journal ok events=" ++ (decimal n ++ line_feed) }
 
 -- docs/FORMATS.md, Journals: the reply to a text whose least wrong line is this one, from 1 (the memory model)
-abbrev pub rejected : (line : ℕ) → Reply
-rejected n = record { status = 17; text = codes "journal bad line=" ++ (decimal n ++ line_feed) }
+abbrev pub rejection : (line : ℕ) → Reply
+rejection n = record { status = 17; text = codes "journal bad line=" ++ (decimal n ++ line_feed) }
 
 -- docs/FORMATS.md, Journals: the reply is that to a text: it is too long (5.2.4.1), it is the journal of lines that obey the memory model, or a line of it
 -- is the least that is wrong
 pub data IsChecked (bytes : List ℕ) (reply : Reply) : Type 0 where
   TooLong : journal_limit < length bytes → reply ≡ too_long → IsChecked bytes reply
-  Obeyed : (rows : List Row) → length bytes ≤ journal_limit → IsJournal rows bytes → reply ≡ accepted (length rows) → IsChecked bytes reply
-  Broken : (line : ℕ) → length bytes ≤ journal_limit → IsBad bytes line → reply ≡ rejected line → IsChecked bytes reply
+  Obeyed : (rows : List Row) → length bytes ≤ journal_limit → IsJournal rows bytes → reply ≡ acceptance (length rows) → IsChecked bytes reply
+  Broken : (line : ℕ) → length bytes ≤ journal_limit → IsBad bytes line → reply ≡ rejection line → IsChecked bytes reply
 
 -- ---- what the program does for its words
 

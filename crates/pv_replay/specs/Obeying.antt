@@ -9,7 +9,7 @@ use Rattle.pv_serve.specs.Outside.{Sunk, Wrote}
 use Rattle.pv_journal.specs.Journals.{Row}
 use Rattle.pv_journal.specs.Obeying.{IsJournal}
 use Rattle.pv_replay.specs.Words.{Job, Write, Check}
-use Rattle.pv_replay.specs.Answers.{most_events, journal_limit, IsChecked, accepted}
+use Rattle.pv_replay.specs.Answers.{most_events, journal_limit, IsChecked, acceptance}
 
 -- docs/FORMATS.md, Journals (5.1.2.3, the memory model): the source's run with this script ended so; the text is that of its first events, and is the
 -- journal of lines that obey. So `check` accepts it, unless it is too long (5.2.4.1).
@@ -19,7 +19,7 @@ pub record IsRunJournal (source script : List ℕ) (bound : ℕ) (text : List �
   pub told : text ≡ watched.journal_text (take most_events ending.events) ending.names
   pub rows : List Row
   pub obey : IsJournal rows text
-  pub checked : length text ≤ journal_limit → IsChecked text (accepted (length rows))
+  pub checked : length text ≤ journal_limit → IsChecked text (acceptance (length rows))
 
 -- docs/FORMATS.md, Journals (the memory model): the report gained such a text
 pub record WroteJournal (report : Sunk) (source script : List ℕ) (bound : ℕ) : Type 0 where

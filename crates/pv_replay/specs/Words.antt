@@ -69,13 +69,13 @@ check_of file [] = Some (Check file)
 check_of file _ = None
 
 -- docs/FORMATS.md, Journals (5.1.2.2.1p2): what a mode asks of a file, with these words behind it
-abbrev pub asked : (mode file : List ℕ) → List (List ℕ) → Option Job
-asked mode file rest =
+abbrev pub job_of_mode : (mode file : List ℕ) → List (List ℕ) → Option Job
+job_of_mode mode file rest =
     if bytes_eq mode (codes "write") then write_of file rest
     else if bytes_eq mode (codes "check") then check_of file rest else None
 
 -- 5.1.2.2.1p2: the job that the words ask for, if they do: `write FILE` with `--script F` and `--turns N` or without, or `check FILE`, where FILE and F have
 -- a byte; anything else is no job (docs/FORMATS.md)
 abbrev pub job : List (List ℕ) → Option Job
-job (mode ∷ file ∷ rest) = if nat_lt 0 (length file) then asked mode file rest else None
+job (mode ∷ file ∷ rest) = if nat_lt 0 (length file) then job_of_mode mode file rest else None
 job _ = None

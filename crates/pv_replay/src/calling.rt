@@ -6,7 +6,7 @@ ghost use Rattle.pv_explain.specs.Texts.{journal_kind};
 ghost use Rattle.pv_exec.specs.Outlets.{hall_slots};
 ghost use Rattle.pv_serve.specs.ReadWords.{IsBound};
 ghost use Rattle.pv_serve.specs.Words.{texts};
-ghost use Rattle.pv_serve.specs.Outside.{sunk};
+ghost use Rattle.pv_serve.specs.Outside.{sink_change};
 ghost use Rattle.pv_serve.specs.Replies.{ReplyCall, Replied, SomeReply, IsReplied};
 ghost use Rattle.pv_replay.specs.Words.{job, Write, Check};
 ghost use Rattle.pv_replay.specs.ReadWords.{run_job};
@@ -46,12 +46,12 @@ pub fn replay<F: Files, R: Sink>(
       held = F.held files.old;
       faults_old = F.faults files.old;
       faults_new = F.faults files.new;
-      report = sunk R.written R.faults report.old report.new;
+      report = sink_change R.written R.faults report.old report.new;
       status = result;
     } in Replied service call }
 
     // What `write` writes of a run `check` accepts.
-    ensures accepted { WritesJournals (job (texts words.now)) (F.held files.old) (sunk R.written R.faults report.old report.new) result }
+    ensures accepted { WritesJournals (job (texts words.now)) (F.held files.old) (sink_change R.written R.faults report.old report.new) result }
     ensures files_same { (n : List ℕ) → F.held files.new n ≡ F.held files.old n }
 
     // Where the words are no job, no file is read.
@@ -75,7 +75,7 @@ fn write_journal<F: Files, R: Sink>(
     requires bound { IsBound run.turns }
     requires hall { hall_slots hall.old its_kind its_wants seen ≡ Present journal_kind 65536 [] ∷ [] }
     ensures served { JobServed (Write (run_job run.entry)) (F.held files.old) (F.faults files.old) (F.faults files.new)
-        (sunk R.written R.faults report.old report.new) result }
+        (sink_change R.written R.faults report.old report.new) result }
     ensures files_same { (n : List ℕ) → F.held files.new n ≡ F.held files.old n }
 {
     match read_job(alloc, files, run.file, run.script) {
@@ -96,7 +96,7 @@ fn write_text<R: Sink>(
     requires bound { IsBound turns }
     requires hall { hall_slots hall.old its_kind its_wants seen ≡ Present journal_kind 65536 [] ∷ [] }
     ensures { TextServed (IsRunReply text.now.source.items text.now.script.items turns)
-        (sunk R.written R.faults report.old report.new) result }
+        (sink_change R.written R.faults report.old report.new) result }
 {
     match journal_of(alloc, text, turns, hall) {
         Ok(reply) => tell_reply(report, &reply),
@@ -107,7 +107,7 @@ fn write_text<R: Sink>(
 // Checks the journal in a file.
 fn check_journal<F: Files, R: Sink>(alloc: Global, name: &str, files: &mut F, report: &mut R) -> u8
     ensures served { JobServed (Check name.now) (F.held files.old) (F.faults files.old) (F.faults files.new)
-        (sunk R.written R.faults report.old report.new) result }
+        (sink_change R.written R.faults report.old report.new) result }
     ensures files_same { (n : List ℕ) → F.held files.new n ≡ F.held files.old n }
 {
     match read_all(alloc, files, name, JOURNAL_LIMIT) {
@@ -119,7 +119,7 @@ fn check_journal<F: Files, R: Sink>(alloc: Global, name: &str, files: &mut F, re
 
 // Checks a text.
 fn check_text<R: Sink>(alloc: Global, bytes: &[u8], report: &mut R) -> u8
-    ensures { TextServed (IsChecked bytes.now) (sunk R.written R.faults report.old report.new) result }
+    ensures { TextServed (IsChecked bytes.now) (sink_change R.written R.faults report.old report.new) result }
 {
     match checked(alloc, bytes) {
         Ok(reply) => tell_reply(report, &reply),
@@ -141,7 +141,7 @@ pub fn replay_calmly(
       held = λ n. Some (calm_held files.old n);
       faults_old = λ _. 0;
       faults_new = λ _. 0;
-      report = sunk calm_written (λ _. 0) report.old report.new;
+      report = sink_change calm_written (λ _. 0) report.old report.new;
       status = result;
     } in (result ≡ 13) ⊎ SomeReply service call (IsReplied call) }
 {

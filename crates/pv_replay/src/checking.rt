@@ -48,7 +48,7 @@ fn too_long(alloc: Global) -> Result<Reply, NoMemory>
 
 // What is told of a journal of so many lines. The only error is want of memory.
 fn accepted(alloc: Global, events: u64) -> Result<Reply, NoMemory>
-    ensures { IfOk result (λ a. reply_view a ≡ specified.accepted events) }
+    ensures { IfOk result (λ a. reply_view a ≡ specified.acceptance events) }
 {
     Ok(Reply {
         status: ACCEPTED,
@@ -58,7 +58,7 @@ fn accepted(alloc: Global, events: u64) -> Result<Reply, NoMemory>
 
 // What is told of a text whose first wrong line is this one. The only error is want of memory.
 fn rejected(alloc: Global, line: u64) -> Result<Reply, NoMemory>
-    ensures { IfOk result (λ a. reply_view a ≡ specified.rejected line) }
+    ensures { IfOk result (λ a. reply_view a ≡ specified.rejection line) }
 {
     Ok(Reply {
         status: REJECTED,

@@ -55,7 +55,7 @@ pub fn job_asked(words: &[String]) -> Option<Asked<'_>>
 
 // What a mode asks of a file, with these words behind it.
 fn asked_by<'a>(mode: &str, file: &'a str, rest: &'a [String]) -> Option<Asked<'a>>
-    ensures words { IsAsked result (specified.asked mode.now file.now (texts rest.now)) }
+    ensures words { IsAsked result (specified.job_of_mode mode.now file.now (texts rest.now)) }
     ensures turns { IfSome result IsBounded }
 {
     match mode {

@@ -17,26 +17,26 @@ use Rattle.std.specs.Str.{bytes_eq}
 use Rattle.pv_script.specs.declared.script.Line.{Line}
 use Rattle.pv_script.specs.Lines.{ScriptLine}
 use Rattle.pv_script.specs.Places.{place_of}
-use Rattle.pv_script.specs.Numbered.{numbered}
+use Rattle.pv_script.specs.Numbered.{numbered_line}
 use Rattle.pv_script.specs.Scripts.{NumberedLine, first_same}
 use Rattle.pv_script.specs.Names.{name_at}
 use Rattle.pv_script.specs.Texts.{with_text}
-use Rattle.pv_script.specs.Indexed.{found, first_place, has_key, key_cmp, IsNamed, IsIndexed}
+use Rattle.pv_script.specs.Indexed.{line_for, first_place, has_key, key_cmp, IsNamed, IsIndexed}
 
 -- what a script says, and which line says the same, are of the first line found
-pub place_found : (es : List NumberedLine) (name : List ℕ) (k : ℕ) → place_of (map (λ (e : NumberedLine). e.says) es) name k ≡ option_map (λ (e : NumberedLine). e.says.place) (found es name k)
+pub place_found : (es : List NumberedLine) (name : List ℕ) (k : ℕ) → place_of (map (λ (e : NumberedLine). e.says) es) name k ≡ option_map (λ (e : NumberedLine). e.says.place) (line_for es name k)
 place_found [] name k = refl
 place_found (e ∷ es) name k = by (eqb e.says.k k && bytes_eq e.says.name name) (place_found es name k)
   where
-    by : (b : Bool) → place_of (map (λ (e : NumberedLine). e.says) es) name k ≡ option_map (λ (e : NumberedLine). e.says.place) (found es name k) → cond b (Some e.says.place) (place_of (map (λ (e : NumberedLine). e.says) es) name k) ≡ option_map (λ (e : NumberedLine). e.says.place) (cond b (Some e) (found es name k))
+    by : (b : Bool) → place_of (map (λ (e : NumberedLine). e.says) es) name k ≡ option_map (λ (e : NumberedLine). e.says.place) (line_for es name k) → cond b (Some e.says.place) (place_of (map (λ (e : NumberedLine). e.says) es) name k) ≡ option_map (λ (e : NumberedLine). e.says.place) (cond b (Some e) (line_for es name k))
     by true rest = refl
     by false rest = rest
 
-pub same_found : (es : List NumberedLine) (s : ScriptLine) → first_same es s ≡ option_map (λ (e : NumberedLine). e.at) (found es s.name s.k)
+pub same_found : (es : List NumberedLine) (s : ScriptLine) → first_same es s ≡ option_map (λ (e : NumberedLine). e.at) (line_for es s.name s.k)
 same_found [] s = refl
 same_found (e ∷ es) s = by (eqb e.says.k s.k && bytes_eq e.says.name s.name) (same_found es s)
   where
-    by : (b : Bool) → first_same es s ≡ option_map (λ (e : NumberedLine). e.at) (found es s.name s.k) → cond b (Some e.at) (first_same es s) ≡ option_map (λ (e : NumberedLine). e.at) (cond b (Some e) (found es s.name s.k))
+    by : (b : Bool) → first_same es s ≡ option_map (λ (e : NumberedLine). e.at) (line_for es s.name s.k) → cond b (Some e.at) (first_same es s) ≡ option_map (λ (e : NumberedLine). e.at) (cond b (Some e) (line_for es s.name s.k))
     by true rest = refl
     by false rest = rest
 
@@ -87,45 +87,45 @@ pub places_same : (names : List (List ℕ)) (ls : List Line) (name : List ℕ) (
 places_same names ls name n k only at known = same_place _ _ ls (λ i d lt. same_test names name n k (get_or ls i d) only at (known i d lt))
 
 -- a line that is found stands at its place
-pub found_there : (ls : List Line) (name : List ℕ) (k i : ℕ) (d : Line) → first_place (is_for name k) ls ≡ Some i → (i < length ls) × (found (map numbered ls) name k ≡ Some (numbered (get_or ls i d)))
+pub found_there : (ls : List Line) (name : List ℕ) (k i : ℕ) (d : Line) → first_place (is_for name k) ls ≡ Some i → (i < length ls) × (line_for (map numbered_line ls) name k ≡ Some (numbered_line (get_or ls i d)))
 found_there [] name k i d e = absurd (none-some i e)
 found_there (l ∷ ls) name k i d e = by (is_for name k l) (first_place (is_for name k) ls) (λ j h. found_there ls name k j d h) refl e
   where
-    by : (b : Bool) (o : Option ℕ) → ((j : ℕ) → first_place (is_for name k) ls ≡ Some j → (j < length ls) × (found (map numbered ls) name k ≡ Some (numbered (get_or ls j d)))) → first_place (is_for name k) ls ≡ o → cond b (Some 0) (option_map (λ i. i + 1) o) ≡ Some i → (i < suc (length ls)) × (cond b (Some (numbered l)) (found (map numbered ls) name k) ≡ Some (numbered (get_or (l ∷ ls) i d)))
-    by true o rest h g = let z : i ≡ 0 = cc in (omega arith, ap (λ j. Some (numbered (get_or (l ∷ ls) j d))) (sym z))
+    by : (b : Bool) (o : Option ℕ) → ((j : ℕ) → first_place (is_for name k) ls ≡ Some j → (j < length ls) × (line_for (map numbered_line ls) name k ≡ Some (numbered_line (get_or ls j d)))) → first_place (is_for name k) ls ≡ o → cond b (Some 0) (option_map (λ i. i + 1) o) ≡ Some i → (i < suc (length ls)) × (cond b (Some (numbered_line l)) (line_for (map numbered_line ls) name k) ≡ Some (numbered_line (get_or (l ∷ ls) i d)))
+    by true o rest h g = let z : i ≡ 0 = cc in (omega arith, ap (λ j. Some (numbered_line (get_or (l ∷ ls) j d))) (sym z))
     by false None rest h g = absurd (none-some i g)
     by false (Some j) rest h g =
         let same : i ≡ j + 1 = cc in
         let z : i ≡ suc j = omega arith in
         let w = rest j h in
-        (omega (arith, w.0), w.1 ∙ ap (λ j. Some (numbered (get_or (l ∷ ls) j d))) (sym z))
+        (omega (arith, w.0), w.1 ∙ ap (λ j. Some (numbered_line (get_or (l ∷ ls) j d))) (sym z))
 
-pub found_nowhere : (ls : List Line) (name : List ℕ) (k : ℕ) → first_place (is_for name k) ls ≡ None → found (map numbered ls) name k ≡ None
+pub found_nowhere : (ls : List Line) (name : List ℕ) (k : ℕ) → first_place (is_for name k) ls ≡ None → line_for (map numbered_line ls) name k ≡ None
 found_nowhere [] name k e = refl
 found_nowhere (l ∷ ls) name k e = by (is_for name k l) (first_place (is_for name k) ls) (found_nowhere ls name k) refl e
   where
-    by : (b : Bool) (o : Option ℕ) → (first_place (is_for name k) ls ≡ None → found (map numbered ls) name k ≡ None) → first_place (is_for name k) ls ≡ o → cond b (Some 0) (option_map (λ i. i + 1) o) ≡ None → cond b (Some (numbered l)) (found (map numbered ls) name k) ≡ None
+    by : (b : Bool) (o : Option ℕ) → (first_place (is_for name k) ls ≡ None → line_for (map numbered_line ls) name k ≡ None) → first_place (is_for name k) ls ≡ o → cond b (Some 0) (option_map (λ i. i + 1) o) ≡ None → cond b (Some (numbered_line l)) (line_for (map numbered_line ls) name k) ≡ None
     by true o rest h g = absurd (none-some 0 (sym g))
     by false None rest h g = rest h
     by false (Some j) rest h g = absurd (none-some (j + 1) (sym g))
 
-pub nowhere_found : (ls : List Line) (name : List ℕ) (k : ℕ) → found (map numbered ls) name k ≡ None → first_place (is_for name k) ls ≡ None
+pub nowhere_found : (ls : List Line) (name : List ℕ) (k : ℕ) → line_for (map numbered_line ls) name k ≡ None → first_place (is_for name k) ls ≡ None
 nowhere_found [] name k e = refl
 nowhere_found (l ∷ ls) name k e = by (is_for name k l) (nowhere_found ls name k) e
   where
-    by : (b : Bool) → (found (map numbered ls) name k ≡ None → first_place (is_for name k) ls ≡ None) → cond b (Some (numbered l)) (found (map numbered ls) name k) ≡ None → cond b (Some 0) (option_map (λ i. i + 1) (first_place (is_for name k) ls)) ≡ None
-    by true rest g = absurd (none-some (numbered l) (sym g))
+    by : (b : Bool) → (line_for (map numbered_line ls) name k ≡ None → first_place (is_for name k) ls ≡ None) → cond b (Some (numbered_line l)) (line_for (map numbered_line ls) name k) ≡ None → cond b (Some 0) (option_map (λ i. i + 1) (first_place (is_for name k) ls)) ≡ None
+    by true rest g = absurd (none-some (numbered_line l) (sym g))
     by false rest g = ap (option_map (λ i. i + 1)) (rest g)
 
 -- a name that is nowhere among the names has no line
-pub unnamed : (names : List (List ℕ)) (ls : List Line) (name : List ℕ) (k : ℕ) → ((i : ℕ) → i < length names → name_at names i ≡ name → ⊥) → All (IsNamed names) ls → found (map numbered ls) name k ≡ None
+pub unnamed : (names : List (List ℕ)) (ls : List Line) (name : List ℕ) (k : ℕ) → ((i : ℕ) → i < length names → name_at names i ≡ name → ⊥) → All (IsNamed names) ls → line_for (map numbered_line ls) name k ≡ None
 unnamed names [] name k none known = refl
 unnamed names (l ∷ ls) name k none known = by (is_for name k l) (unnamed names ls name k none (λ i d lt. known (suc i) d (omega arith))) refl
   where
     here : IsNamed names l
     here = known 0 l (omega arith)
 
-    by : (b : Bool) → found (map numbered ls) name k ≡ None → is_for name k l ≡ b → cond b (Some (numbered l)) (found (map numbered ls) name k) ≡ None
+    by : (b : Bool) → line_for (map numbered_line ls) name k ≡ None → is_for name k l ≡ b → cond b (Some (numbered_line l)) (line_for (map numbered_line ls) name k) ≡ None
     by true rest h =
         let w = halves (eqb l.k k) (bytes_eq l.name.items name) h in
         absurd (none l.number (slice_get_within names l.number l.name.items here.named) (get_or_from_slice_get names l.number l.name.items [] here.named ∙ (bytes_eq-Decides l.name.items name).0 w.1))
@@ -186,7 +186,7 @@ first_pushed p (x ∷ ls) l = ap (λ o. cond (p x) (Some 0) (option_map (λ i. i
         last false = refl
 
 -- one line more, with its place in the map
-pub one_more : (names : List (List ℕ)) (ls : List Line) (es fs : List ((ℕ × ℕ) × ℕ)) (l : Line) → IsOnly names l.name.items l.number → IsIndexed names ls es → IsNamed names l → found (map numbered ls) l.name.items l.k ≡ None
+pub one_more : (names : List (List ℕ)) (ls : List Line) (es fs : List ((ℕ × ℕ) × ℕ)) (l : Line) → IsOnly names l.name.items l.number → IsIndexed names ls es → IsNamed names l → line_for (map numbered_line ls) l.name.items l.k ≡ None
     → ((q : ℕ × ℕ) → lookup (is_at (key_cmp q)) fs ≡ cond (is_at (key_cmp (l.number, l.k)) q) (Some (length ls)) (lookup (is_at (key_cmp q)) es)) → IsIndexed names (ls ++ l ∷ []) fs
 one_more names ls es fs l only h named none updates = record {
   known = All-push (IsNamed names) ls l h.known named;
@@ -211,7 +211,7 @@ one_more names ls es fs l only h named none updates = record {
 
 -- the same by the facts that the calls tell
 pub kept_more : (names more : List (List ℕ)) (text : List ℕ) (ls same all : List Line) (es fs : List ((ℕ × ℕ) × ℕ)) (l : Line) (q : ℕ × ℕ) (at : ℕ) → more ≡ with_text names text → text ≡ l.name.items → IsOnly more text l.number → slice_get more l.number ≡ Some text
-    → IsIndexed names ls es → same ≡ ls → all ≡ same ++ l ∷ [] → found (map numbered ls) l.name.items l.k ≡ None → q ≡ (l.number, l.k) → at ≡ length same
+    → IsIndexed names ls es → same ≡ ls → all ≡ same ++ l ∷ [] → line_for (map numbered_line ls) l.name.items l.k ≡ None → q ≡ (l.number, l.k) → at ≡ length same
     → ((p : ℕ × ℕ) → lookup (is_at (key_cmp p)) fs ≡ cond (is_at (key_cmp q) p) (Some at) (lookup (is_at (key_cmp p)) es)) → IsIndexed more all fs
 kept_more names more text ls same all es fs l q at more_is text_is only there h same_is all_is none q_is at_is updates = subst (λ ms. IsIndexed more ms fs) (sym (all_is ∙ ap (λ ms. ms ++ l ∷ []) same_is))
     (one_more more ls es fs l (subst (λ t. IsOnly more t l.number) text_is only) before record { named = there ∙ ap Some text_is } none
@@ -225,7 +225,7 @@ by_name : (names : List (List ℕ)) (ls : List Line) (es : List ((ℕ × ℕ) ×
 by_name names ls es name n k q only at h q_is = sym (places_same names ls name n k only at h.known) ∙ ap (λ p. first_place (has_key p) ls) (sym q_is) ∙ sym (h.places q)
 
 pub by_key : (names : List (List ℕ)) (ls : List Line) (es : List ((ℕ × ℕ) × ℕ)) (name : List ℕ) (n k : ℕ) (q : ℕ × ℕ) (i : ℕ) (d : Line) → IsOnly names name n → slice_get names n ≡ Some name → IsIndexed names ls es → q ≡ (n, k) → Some i ≡ lookup (is_at (key_cmp q)) es
-    → found (map numbered ls) name k ≡ Some (numbered (get_or ls i d))
+    → line_for (map numbered_line ls) name k ≡ Some (numbered_line (get_or ls i d))
 by_key names ls es name n k q i d only at h q_is e = (found_there ls name k i d (by_name names ls es name n k q only at h q_is ∙ sym e)).1
 
 pub key_within : (names : List (List ℕ)) (ls : List Line) (es : List ((ℕ × ℕ) × ℕ)) (name : List ℕ) (n k : ℕ) (q : ℕ × ℕ) (i : ℕ) → IsOnly names name n → slice_get names n ≡ Some name → IsIndexed names ls es → q ≡ (n, k) → Some i ≡ lookup (is_at (key_cmp q)) es → i < length ls
@@ -235,14 +235,14 @@ key_within names ls es name n k q i only at h q_is e = within ls (by_name names 
     within [] g = absurd (none-some i g)
     within (m ∷ ms) g = (found_there (m ∷ ms) name k i m g).0
 
-pub none_by_key : (names : List (List ℕ)) (ls : List Line) (es : List ((ℕ × ℕ) × ℕ)) (name : List ℕ) (n k : ℕ) (q : ℕ × ℕ) → IsOnly names name n → slice_get names n ≡ Some name → IsIndexed names ls es → q ≡ (n, k) → None ≡ lookup (is_at (key_cmp q)) es → found (map numbered ls) name k ≡ None
+pub none_by_key : (names : List (List ℕ)) (ls : List Line) (es : List ((ℕ × ℕ) × ℕ)) (name : List ℕ) (n k : ℕ) (q : ℕ × ℕ) → IsOnly names name n → slice_get names n ≡ Some name → IsIndexed names ls es → q ≡ (n, k) → None ≡ lookup (is_at (key_cmp q)) es → line_for (map numbered_line ls) name k ≡ None
 none_by_key names ls es name n k q only at h q_is e = found_nowhere ls name k (by_name names ls es name n k q only at h q_is ∙ sym e)
 
 -- what no earlier line says has no line
-pub none_same : (es : List NumberedLine) (s : ScriptLine) → first_same es s ≡ None → found es s.name s.k ≡ None
+pub none_same : (es : List NumberedLine) (s : ScriptLine) → first_same es s ≡ None → line_for es s.name s.k ≡ None
 none_same [] s e = refl
 none_same (x ∷ es) s e = by (eqb x.says.k s.k && bytes_eq x.says.name s.name) (none_same es s) e
   where
-    by : (b : Bool) → (first_same es s ≡ None → found es s.name s.k ≡ None) → cond b (Some x.at) (first_same es s) ≡ None → cond b (Some x) (found es s.name s.k) ≡ None
+    by : (b : Bool) → (first_same es s ≡ None → line_for es s.name s.k ≡ None) → cond b (Some x.at) (first_same es s) ≡ None → cond b (Some x) (line_for es s.name s.k) ≡ None
     by true rest g = absurd (none-some x.at (sym g))
     by false rest g = rest g

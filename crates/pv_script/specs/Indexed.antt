@@ -10,9 +10,9 @@ use Rattle.pv_script.specs.declared.script.Line.{Line}
 use Rattle.pv_script.specs.Scripts.{NumberedLine}
 
 -- the first line for the name and the count, which says where the request goes (C17 6.2.4p2)
-abbrev pub found : List NumberedLine → List ℕ → ℕ → Option NumberedLine
-found [] name k = None
-found (e ∷ es) name k = if e.says.k == k && bytes_eq e.says.name name then Some e else found es name k
+abbrev pub line_for : List NumberedLine → List ℕ → ℕ → Option NumberedLine
+line_for [] name k = None
+line_for (e ∷ es) name k = if e.says.k == k && bytes_eq e.says.name name then Some e else line_for es name k
 
 -- where the first one stands that passes: of the lines for a request the first decides (C17 6.2.4p2)
 abbrev pub first_place : {X : Type 0} → (X → Bool) → List X → Option ℕ

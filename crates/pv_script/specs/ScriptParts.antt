@@ -6,8 +6,8 @@ use Rattle.pv_script.specs.Lines.{ScriptLine}
 use Rattle.std.specs.Option.{option_and_then}
 
 -- what a line says, if it has a reading (docs/FORMATS.md, Scripts of addresses; C17 6.2.4p2)
-abbrev pub said : List ℕ → Option ScriptLine
-said line = said_in (slice_split (λ b. b == 32) line)
+abbrev pub line_said : List ℕ → Option ScriptLine
+line_said line = said_in (slice_split (λ b. b == 32) line)
 
 -- the number, where it is from 1 to `most` (6.4.4.1p1)
 abbrev pub in_range : (most : ℕ) → Option ℕ → Option ℕ

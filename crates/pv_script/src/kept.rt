@@ -1,8 +1,8 @@
 // The lines of a script, found by name and count.
 ghost use Rattle.std.specs.Prelude.{◌≡◌, [], ◌∷◌, ◌++◌, OnOk, None};
 ghost use Rattle.std.specs.Option.{option_map};
-ghost use Rattle.pv_script.specs.Numbered.{numbered};
-ghost use Rattle.pv_script.specs.Indexed.{found};
+ghost use Rattle.pv_script.specs.Numbered.{numbered_line};
+ghost use Rattle.pv_script.specs.Indexed.{line_for};
 
 use crate::NoMemory;
 use crate::names::Names;
@@ -23,12 +23,12 @@ pub(crate) struct Lines {
 impl Model for Lines {
     ghost use Rattle.std.specs.Prelude.{List, map};
     ghost use Rattle.pv_script.specs.Scripts.{NumberedLine};
-    ghost use Rattle.pv_script.specs.Numbered.{numbered};
+    ghost use Rattle.pv_script.specs.Numbered.{numbered_line};
     ghost use Rattle.pv_script.specs.Indexed.{IsIndexed};
 
     ghost Value = { List NumberedLine };
 
-    ghost view = { λ s. map numbered s.lines.items };
+    ghost view = { λ s. map numbered_line s.lines.items };
 
     ghost invariant = { λ s. IsIndexed s.names s.lines.items s.places.entries };
 }
@@ -47,7 +47,7 @@ impl Lines {
 
     /// The line for a name and a count. Most runs have no script, and then no name is looked for.
     pub(crate) fn find(&self, name: &[u8], k: u64) -> Option<&Line>
-        ensures { option_map (λ l. numbered l.now) result ≡ found self.now name.now k }
+        ensures { option_map (λ l. numbered_line l.now) result ≡ line_for self.now name.now k }
     {
         if self.lines.is_empty() {
             return None;
@@ -61,8 +61,8 @@ impl Lines {
 
     /// One line more, for a name and a count that no line has.
     pub(crate) fn push(&mut self, line: Line) -> Result<(), NoMemory>
-        requires { found self.old line.name.items line.k ≡ None }
-        ensures { OnOk result (self.new ≡ self.old ++ numbered line ∷ []) }
+        requires { line_for self.old line.name.items line.k ≡ None }
+        ensures { OnOk result (self.new ≡ self.old ++ numbered_line line ∷ []) }
     {
         let number = self.names.add(&line.name)?;
         self.lines.reserve(1)?;

@@ -5,7 +5,7 @@ use Rattle.std.specs.Option.{option_or}
 use Rattle.std.proofs.lemmas.List.{length_push, get_or_append_left}
 use Rattle.std.proofs.lemmas.Bool.{cases_Bool, cases_eq, true≢false}
 use Rattle.pv_seq.specs.Sequencing.{Access, clash, overlap}
-use Rattle.pv_seq.specs.Marks.{marked, NoneMarked}
+use Rattle.pv_seq.specs.Marks.{is_marked_at, NoneMarked}
 use Rattle.pv_seq.specs.Found.{is_narrow, no_access, IsFound, AreFound, NoneClash, Stands}
 use Rattle.pv_seq.specs.Frames.{row}
 use Rattle.pv_seq.specs.declared.index.Index.{Index}
@@ -19,10 +19,10 @@ none_shared : (x : Index) (a b : Access) (n start end : ℕ) → start ≤ n →
     → (w ≡ false → NoneMarked x.reads a.place a.length start end) → ⊥
 none_shared x a b n start end le lt (m, (p, q), (r, t)) true w narrow f nw nr =
     let i : a.place + (m - a.place) ≡ b.place + (m - b.place) = omega (arith, p, r) in
-    true≢false (sym (f.0 narrow w (m - b.place) (omega (arith, r, t))) ∙ ap (λ k. marked x.writes k n) (sym i) ∙ nw (m - a.place) n (omega (arith, p, q)) le lt)
+    true≢false (sym (f.0 narrow w (m - b.place) (omega (arith, r, t))) ∙ ap (λ k. is_marked_at x.writes k n) (sym i) ∙ nw (m - a.place) n (omega (arith, p, q)) le lt)
 none_shared x a b n start end le lt (m, (p, q), (r, t)) false w narrow f nw nr =
     let i : a.place + (m - a.place) ≡ b.place + (m - b.place) = omega (arith, p, r) in
-    true≢false (sym (f.1 narrow w (m - b.place) (omega (arith, r, t))) ∙ ap (λ k. marked x.reads k n) (sym i) ∙ nr refl (m - a.place) n (omega (arith, p, q)) le lt)
+    true≢false (sym (f.1 narrow w (m - b.place) (omega (arith, r, t))) ∙ ap (λ k. is_marked_at x.reads k n) (sym i) ∙ nr refl (m - a.place) n (omega (arith, p, q)) le lt)
 
 and_right : (p q : Bool) → (p && q) ≡ true → q ≡ true
 and_right true q e = e

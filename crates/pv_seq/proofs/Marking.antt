@@ -8,7 +8,7 @@ use Rattle.std.specs.BTreeMap.Range.{IsInRange}
 use Rattle.std.specs.BTreeSet.{BTreeSet, Updates, IsKeyRangeOf}
 use Rattle.std.proofs.lemmas.Cmp.{ranked}
 use Rattle.std.proofs.lemmas.Bool.{cases_eq, true≢false}
-use Rattle.pv_seq.specs.Marks.{mark_cmp, marked, AllMarked, NoneMarked, KeepsMarks}
+use Rattle.pv_seq.specs.Marks.{mark_cmp, is_marked_at, AllMarked, NoneMarked, KeepsMarks}
 
 number_is : (x y : ℕ) (r : Ordering) → r ≡ nat_cmp x y → y < x → r ≡ Greater
 number_is x y Less e lt = absurd (omega (arith, lt, ranked x y Less e))
@@ -37,14 +37,14 @@ kept x y true e h = e
 kept x y false e h = e ∙ h
 
 pub mark_kept : (s t : BTreeSet (ℕ × ℕ)) (p n : ℕ) → Updates mark_cmp s t (p, n) true → KeepsMarks s t
-mark_kept s t p n u = λ byte number h. kept (marked s byte number) (marked t byte number) (is_eq (mark_cmp (p, n) (byte, number))) (u.0 (byte, number)) h
+mark_kept s t p n u = λ byte number h. kept (is_marked_at s byte number) (is_marked_at t byte number) (is_eq (mark_cmp (p, n) (byte, number))) (u.0 (byte, number)) h
 
 pub marks_unchanged : (s t : BTreeSet (ℕ × ℕ)) → t.keys ≡ s.keys → KeepsMarks s t
 marks_unchanged s t e = λ byte number h. ap (λ ks. Rattle.std.specs.List.list_any (λ k. is_eq (mark_cmp (byte, number) k)) ks) e ∙ h
 
 pub marked_more : (s t : BTreeSet (ℕ × ℕ)) (p n i : ℕ) → Updates mark_cmp s t (p + i, n) true → AllMarked s p i n → AllMarked t p (i + 1) n
 marked_more s t p n i u h = λ j lt. elim (cases_eq j i) [
-  | inl e ↦ ap (λ k. marked t (p + k) n) e ∙ u.1
+  | inl e ↦ ap (λ k. is_marked_at t (p + k) n) e ∙ u.1
   | inr other ↦ mark_kept s t (p + i) n u (p + j) n (h j (omega (arith, lt, other)))
 ]
 
@@ -55,7 +55,7 @@ apart Less r e = refl
 apart Equal r e = ap is_eq e
 apart Greater r e = refl
 
-pub unmark_kept : (s t : BTreeSet (ℕ × ℕ)) (p n : ℕ) → Updates mark_cmp s t (p, n) false → (byte k : ℕ) → k < n → marked t byte k ≡ marked s byte k
+pub unmark_kept : (s t : BTreeSet (ℕ × ℕ)) (p n : ℕ) → Updates mark_cmp s t (p, n) false → (byte k : ℕ) → k < n → is_marked_at t byte k ≡ is_marked_at s byte k
 unmark_kept s t p n u byte k lt = u.2 (byte, k) (apart (nat_cmp p byte) (nat_cmp n k) (number_is n k (nat_cmp n k) refl lt))
 
 -- ---- found
@@ -74,8 +74,8 @@ pub none_is : {A : Type 0} → (r : Option A) → is_some r ≡ false → r ≡ 
 none_is None e = refl
 none_is (Some x) e = absurd (true≢false e)
 
-pub none_marked_more : (s : BTreeSet (ℕ × ℕ)) (place length start end : ℕ) → NoneMarked s place length start end → ((n : ℕ) → start ≤ n → n < end → marked s (place + length) n ≡ false) → NoneMarked s place (length + 1) start end
+pub none_marked_more : (s : BTreeSet (ℕ × ℕ)) (place length start end : ℕ) → NoneMarked s place length start end → ((n : ℕ) → start ≤ n → n < end → is_marked_at s (place + length) n ≡ false) → NoneMarked s place (length + 1) start end
 none_marked_more s place length start end h g = λ i n lt le before. elim (cases_eq i length) [
-  | inl e ↦ ap (λ k. marked s (place + k) n) e ∙ g n le before
+  | inl e ↦ ap (λ k. is_marked_at s (place + k) n) e ∙ g n le before
   | inr other ↦ h i n (omega (arith, lt, other)) le before
 ]

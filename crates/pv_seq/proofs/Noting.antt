@@ -1,9 +1,9 @@
 -- Reads that are noted together.
 use Rattle.std.proofs.Common.{◌≡◌, ◌≤◌, ◌+◌, ◌-◌, ℕ, zero, suc, Bool, false, List, [], ◌∷◌, ◌++◌, length, take, replicate, reverse, get_or, if◌then◌else◌, sym, ap, subst, ◌∙◌, arith, append-nil, append_assoc, take_all}
 use Rattle.std.proofs.lemmas.List.{length_push}
-use Rattle.pv_seq.specs.Sequencing.{Access, Open, noted}
+use Rattle.pv_seq.specs.Sequencing.{Access, Open, with_access}
 use Rattle.pv_seq.specs.Rivals.{top, below}
-use Rattle.pv_seq.specs.Frames.{row, foes_at, opens, shown, AllRead, AreLastWrites, AreNested, HaveLoose, with_reads}
+use Rattle.pv_seq.specs.Frames.{row, foes_at, opens, open_nodes, AllRead, AreLastWrites, AreNested, HaveLoose, with_reads}
 use Rattle.pv_seq.specs.declared.frames.Frame.{Frame}
 use Rattle.pv_seq.specs.declared.index.Index.{Index}
 use Rattle.pv_seq.specs.Found.{AreFound}
@@ -32,7 +32,7 @@ read_opens : (xs ls : List Access) (m n : ℕ) (fs : List Frame) → AllRead xs 
 read_opens xs ls m n [] h = tt
 read_opens xs ls m n (f ∷ fs) h = all_read_foes xs 0 (f ∷ fs) h
 
-pub top_reads : (xs ls : List Access) (frames : List Frame) (js : List Open) (last : ℕ) → shown xs ls frames ≡ js → last ≡ 0 → AllRead (row last (length xs) xs) → AllRead (top js).foes
+pub top_reads : (xs ls : List Access) (frames : List Frame) (js : List Open) (last : ℕ) → open_nodes xs ls frames ≡ js → last ≡ 0 → AllRead (row last (length xs) xs) → AllRead (top js).foes
 top_reads xs ls frames js last e none h =
     let all : AllRead xs = subst AllRead (take_all (length xs) xs (omega arith)) (subst (λ n. AllRead (row n (length xs) xs)) none h) in
     subst (λ (ks : List Open). AllRead (top ks).foes) e (read_opens xs ls (length xs) (length ls) (reverse frames) all)
@@ -77,7 +77,7 @@ reads_kept xs ls (a ∷ more) fs all h =
     (reads_kept (xs ++ a ∷ []) ls more fs all.1 (noted_kept xs ls ls a fs (loose_same ls a all.0) h))
 
 -- a read of the node's own, and those behind it
-read_first : (a : Access) (more : List Access) (j : Open) → a.writes ≡ false → with_reads more (noted a j) ≡ with_reads (a ∷ more) j
+read_first : (a : Access) (more : List Access) (j : Open) → a.writes ≡ false → with_reads more (with_access a j) ≡ with_reads (a ∷ more) j
 read_first a more j read =
     ap (λ (ls : List Access). record { foes = j.foes; all = (j.all ++ a ∷ []) ++ more; loose = ls }) (sym (loose_same j.loose a read))
     ∙ ap (λ (qs : List Access). record { foes = j.foes; all = qs; loose = j.loose }) (append_assoc j.all (a ∷ []) more)
@@ -87,16 +87,16 @@ none_read js f ks e =
     e ∙ ap (λ (qs : List Access). record { foes = f.foes; all = qs; loose = f.loose } ∷ ks) (sym (append-nil f.all)) ∙ ap (λ (is : List Open). with_reads [] (top is) ∷ below is) (sym e)
 
 pub reads_frames : (xs ls more : List Access) (frames : List Frame) → 1 ≤ length frames → AllRead more → AreNested (length xs) (reverse frames) × HaveLoose (length ls) (reverse frames)
-    → shown (xs ++ more) ls frames ≡ with_reads more (top (shown xs ls frames)) ∷ below (shown xs ls frames)
+    → open_nodes (xs ++ more) ls frames ≡ with_reads more (top (open_nodes xs ls frames)) ∷ below (open_nodes xs ls frames)
 reads_frames xs ls [] frames some all h =
     let f = get_or frames (length frames - 1) no_frame in
     let outer = reverse (take (length frames - 1) frames) in
-    ap (λ (ys : List Access). shown ys ls frames) (append-nil xs) ∙ none_read (shown xs ls frames) _ _ (shown_inner xs ls frames f outer (last_frame frames no_frame some))
+    ap (λ (ys : List Access). open_nodes ys ls frames) (append-nil xs) ∙ none_read (open_nodes xs ls frames) _ _ (shown_inner xs ls frames f outer (last_frame frames no_frame some))
 reads_frames xs ls (a ∷ more) frames some all h =
     let ys = xs ++ a ∷ [] in
-    let js = shown xs ls frames in
-    let one : shown ys ls frames ≡ noted a (top js) ∷ below js = noted_frames xs ls ls a frames some h (loose_same ls a all.0) in
-    ap (λ (zs : List Access). shown zs ls frames) (sym (append_assoc xs (a ∷ []) more))
+    let js = open_nodes xs ls frames in
+    let one : open_nodes ys ls frames ≡ with_access a (top js) ∷ below js = noted_frames xs ls ls a frames some h (loose_same ls a all.0) in
+    ap (λ (zs : List Access). open_nodes zs ls frames) (sym (append_assoc xs (a ∷ []) more))
     ∙ reads_frames ys ls more frames some all.1 (noted_kept xs ls ls a (reverse frames) (loose_same ls a all.0) h)
     ∙ ap (λ (ks : List Open). with_reads more (top ks) ∷ below ks) one
     ∙ ap (λ (j : Open). j ∷ below js) (read_first a more (top js) all.0)

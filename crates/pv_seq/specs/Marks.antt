@@ -9,17 +9,17 @@ abbrev pub mark_cmp : ℕ × ℕ → ℕ × ℕ → Ordering
 mark_cmp p q = ordering_then (nat_cmp p.0 q.0) (nat_cmp p.1 q.1)
 
 -- whether the access of this number is marked at a byte
-abbrev pub marked : BTreeSet (ℕ × ℕ) → ℕ → ℕ → Bool
-marked s byte number = contains mark_cmp s (byte, number)
+abbrev pub is_marked_at : BTreeSet (ℕ × ℕ) → ℕ → ℕ → Bool
+is_marked_at s byte number = contains mark_cmp s (byte, number)
 
 -- it is marked at all of its bytes
 abbrev pub AllMarked : BTreeSet (ℕ × ℕ) → (place length number : ℕ) → Type 0
-AllMarked s place length number = (i : ℕ) → i < length → marked s (place + i) number ≡ true
+AllMarked s place length number = (i : ℕ) → i < length → is_marked_at s (place + i) number ≡ true
 
 -- no access with a number from `start` to before `end` is marked at one of these bytes
 abbrev pub NoneMarked : BTreeSet (ℕ × ℕ) → (place length start end : ℕ) → Type 0
-NoneMarked s place length start end = (i n : ℕ) → i < length → start ≤ n → n < end → marked s (place + i) n ≡ false
+NoneMarked s place length start end = (i n : ℕ) → i < length → start ≤ n → n < end → is_marked_at s (place + i) n ≡ false
 
 -- no access's mark is lost
 abbrev pub KeepsMarks : BTreeSet (ℕ × ℕ) → BTreeSet (ℕ × ℕ) → Type 0
-KeepsMarks s t = (byte number : ℕ) → marked s byte number ≡ true → marked t byte number ≡ true
+KeepsMarks s t = (byte number : ℕ) → is_marked_at s byte number ≡ true → is_marked_at t byte number ≡ true

@@ -1,7 +1,7 @@
 -- A bridge: the innermost node in progress, and what an access tells of a rival.
 use Rattle.std.specs.Prelude.{find, ◌≡◌, Some, None, List, [], ◌∷◌}
 use Rattle.std.specs.declared.option.Option.{Option}
-use Rattle.pv_seq.specs.Sequencing.{clash, Access, Open, rivals, opened}
+use Rattle.pv_seq.specs.Sequencing.{clash, Access, Open, rivals, open_against}
 use Rattle.pv_seq.specs.declared.error.SeqStop.{SeqStop}
 use Rattle.pv_seq.specs.declared.error.SeqStop.TheVariants.{Conflict, NoMemory}
 
@@ -17,7 +17,7 @@ Tells _ _ = ⊥
 
 -- the innermost node in progress
 abbrev pub top : List Open → Open
-top [] = opened []
+top [] = open_against []
 top (j ∷ js) = j
 
 -- the nodes around the innermost one

@@ -1,6 +1,6 @@
 //! Accesses found by address.
 ghost use Rattle.std.specs.Prelude.{◌≡◌, ◌≤◌, ◌<◌, ◌+◌, ◌^◌, ℕ, true, false, OnOk};
-ghost use Rattle.pv_seq.specs.Marks.{marked, AllMarked, NoneMarked, KeepsMarks};
+ghost use Rattle.pv_seq.specs.Marks.{is_marked_at, AllMarked, NoneMarked, KeepsMarks};
 
 use crate::NoMemory;
 use std::collections::BTreeSet;
@@ -25,7 +25,7 @@ pub(crate) fn mark(
 /// Takes away the marks of the access with this number at these bytes.
 pub(crate) fn unmark(marks: &mut BTreeSet<(u64, usize)>, place: u64, length: u64, number: usize)
     requires { place + length < 2 ^ 64 }
-    ensures { (byte n : ℕ) → n < number → marked marks.new byte n ≡ marked marks.old byte n }
+    ensures { (byte n : ℕ) → n < number → is_marked_at marks.new byte n ≡ is_marked_at marks.old byte n }
 {
     for i in 0..length {
         marks.remove(&(place + i, number));
@@ -35,7 +35,7 @@ pub(crate) fn unmark(marks: &mut BTreeSet<(u64, usize)>, place: u64, length: u64
 /// Whether an access with a number from `start` to before `end` is marked at this byte.
 fn is_touched(marks: &BTreeSet<(u64, usize)>, byte: u64, start: usize, end: usize) -> bool
     requires { start ≤ end }
-    ensures { result ≡ false → (n : ℕ) → start ≤ n → n < end → marked marks.now byte n ≡ false }
+    ensures { result ≡ false → (n : ℕ) → start ≤ n → n < end → is_marked_at marks.now byte n ≡ false }
 {
     marks.range((byte, start)..(byte, end)).next().is_some()
 }

@@ -15,7 +15,7 @@ use Rattle.std.specs.declared.alloc.AllocError.{AllocError}
 use Rattle.pv_serve.specs.Verdicts.{Verdict, Course, course_of}
 use Rattle.pv_serve.specs.VerdictParts.{BeganOutput}
 use Rattle.pv_serve.specs.Jobs.{Job, FileJob, Files, Generated, files_of, task_of, sides_of, watched_of, kinds_of}
-use Rattle.pv_serve.specs.Words.{job, generated, file_job}
+use Rattle.pv_serve.specs.Words.{job, generator_count, file_job}
 use Rattle.pv_serve.specs.WordParts.{either}
 use Rattle.pv_serve.specs.Comes.{source_limit}
 use Rattle.pv_serve.specs.Judged.{Judged, SomeRun, script_limit}
@@ -25,9 +25,9 @@ use Rattle.pv_serve.specs.Replying.{IsHanded}
 use Rattle.pv_serve.specs.Judging.{Shown, verdict_of, IsJudged, IsCutOff}
 use Rattle.pv_serve.specs.Report.{report_line, status_of}
 use Rattle.pv_serve.specs.Watching.{AreTold, IsReport, kept_by}
-use Rattle.pv_serve.specs.Answer.{Answer, answer_of, read_fault, HasReport, OfSource, needed, SomeVerdict, SomeAnswer, SomeEnd, script_held}
+use Rattle.pv_serve.specs.Answer.{Answer, answer_of, read_fault, HasReport, OfSource, script_needed, SomeVerdict, SomeAnswer, SomeEnd, script_held}
 use Rattle.pv_serve.specs.ReportParts.{no_job, words_line, fault_line}
-use Rattle.pv_serve.specs.Causes.{Call, IsAnswer, WroteReport, WroteOutput, facts_of, Served, kept}
+use Rattle.pv_serve.specs.Causes.{Call, IsAnswer, WroteReport, WroteOutput, facts_of, Served, slots_of_job}
 use Rattle.pv_serve.specs.Serving.{kept_halls, IsSource, IsReportOn, HasStory, SomeReport, Reported, IsTold, Answered, FilesServed, WereRead, WereLost, HadNoRoom}
 use Rattle.pv_serve.proofs.LateLemmas.{right_of}
 use Rattle.pv_serve.proofs.Limits.{more_decides, more_runs}
@@ -145,8 +145,8 @@ if_some (Some x) P Q f h = f x h
 
 of_files : (j : FileJob) (held : List ℕ → Option (List ℕ)) (P Q : List ℕ → List ℕ → Type 0) → ((all text : List ℕ) → P all text → Q all text) → OfSource (Files j) held P → OfSource (Files j) held Q
 of_files j held P Q f h =
-    if_some (held j.file) (λ all. IfSome (needed all (script_held j.script held)) (P all)) (λ all. IfSome (needed all (script_held j.script held)) (Q all))
-    (λ all. if_some (needed all (script_held j.script held)) (P all) (Q all) (f all)) h
+    if_some (held j.file) (λ all. IfSome (script_needed all (script_held j.script held)) (P all)) (λ all. IfSome (script_needed all (script_held j.script held)) (Q all))
+    (λ all. if_some (script_needed all (script_held j.script held)) (P all) (Q all) (f all)) h
 
 judged_told : (all text source script : List ℕ) (t : Task) → (source ≡ take (source_limit + 1) all) × (script ≡ take (script_limit + 1) text)
     → (sides : Option (List Bool)) (v : Verdict) → Judged source script t sides v → Judged all text t sides v
@@ -196,7 +196,7 @@ some_end words held j source script P e is v = subst (λ (o : Option Job). SomeE
 
 -- the hall once those whom the job keeps are kept
 abbrev halls_of : Call → Halls
-halls_of c = record { old = kept c; new = c.hall.new }
+halls_of c = record { old = slots_of_job c; new = c.hall.new }
 
 -- a call that was answered
 table_of_answer : (c : Call) (j : Job) (source script : List ℕ) → job c.words ≡ Some j → IsSource j c.held source script
@@ -206,8 +206,8 @@ table_of_answer c j source script e is r = record {
   write_fault = λ h. (
     r.write_fault h,
     inl (elim (r.wrote h) [
-      | inl v ↦ inl (some_asked c.words c.held j source script (WroteReport c.out c.report (kept c) c.hall.new) (WroteReport c.out c.report (kept c) c.hall.new) (λ a w. w) e is v)
-      | inr p ↦ inr (some_end c.words c.held j source script (WroteOutput c.out c.report (kept c) c.hall.new) e is p)
+      | inl v ↦ inl (some_asked c.words c.held j source script (WroteReport c.out c.report (slots_of_job c) c.hall.new) (WroteReport c.out c.report (slots_of_job c) c.hall.new) (λ a w. w) e is v)
+      | inr p ↦ inr (some_end c.words c.held j source script (WroteOutput c.out c.report (slots_of_job c) c.hall.new) e is p)
     ]),
   );
   no_memory = λ h. (
@@ -235,7 +235,7 @@ line_report kept new a P none stays holds = record {
 }
 
 -- a call whose files could not be read
-served_by_fault : (c : Call) (j : Job) → job c.words ≡ Some j → AnyRose (files_of j) c.faults_old c.faults_new → c.out.new ≡ c.out.old → c.hall.new ≡ kept c
+served_by_fault : (c : Call) (j : Job) → job c.words ≡ Some j → AnyRose (files_of j) c.faults_old c.faults_new → c.out.new ≡ c.out.old → c.hall.new ≡ slots_of_job c
     → IsHanded c.report c.status (record { status = 11; text = fault_line }) → Served c
 served_by_fault c j e rose same stays handed =
     owed_by_fault (facts_of c) j c.status e (subst (λ (o : Option Job). IsSomeAnd o (λ i. AnyRose (files_of i) c.faults_old c.faults_new)) (sym e) rose)
@@ -244,14 +244,14 @@ served_by_fault c j e rose same stays handed =
       record {
         status = (handed.told not12).0;
         out = nothing c.out same;
-        report = line_report (kept c) c.hall.new read_fault (Wrote c.report) refl stays (handed.told not12).1;
+        report = line_report (slots_of_job c) c.hall.new read_fault (Wrote c.report) refl stays (handed.told not12).1;
       },
     ))
     (λ h. (
       inr (handed.fault h).0,
       record {
         whole = nothing c.out same;
-        begun = line_report (kept c) c.hall.new read_fault (WrotePrefix c.report) refl stays (handed.fault h).1;
+        begun = line_report (slots_of_job c) c.hall.new read_fault (WrotePrefix c.report) refl stays (handed.fault h).1;
       },
     ))
 
@@ -262,22 +262,22 @@ served_by_nothing c j e is same kept = owed_by_nothing (facts_of c) j c.status e
 -- words that are no job
 pub served_by_words : (c : Call) → job c.words ≡ None → c.out.new ≡ c.out.old → c.hall.new ≡ c.hall.old → IsHanded c.report c.status (record { status = 10; text = words_line }) → Served c
 served_by_words c e same stays handed =
-    let left : c.hall.new ≡ kept c = stays ∙ sym (ap (λ (o : Option Job). kept_by o c.hall.old) e) in
+    let left : c.hall.new ≡ slots_of_job c = stays ∙ sym (ap (λ (o : Option Job). kept_by o c.hall.old) e) in
     owed_by_words (facts_of c) c.status e
     (λ not12. (
       (handed.told not12).0,
       subst (λ (o : Option Job). SomeAnswer o c.held (IsAnswer c)) (sym e) (record {
         status = (handed.told not12).0;
         out = nothing c.out same;
-        report = line_report (kept c) c.hall.new no_job (Wrote c.report) refl left (handed.told not12).1;
+        report = line_report (slots_of_job c) c.hall.new no_job (Wrote c.report) refl left (handed.told not12).1;
       }),
     ))
     (λ h. (
       inr (handed.fault h).0,
       (handed.fault h).0,
-      inl (subst (λ (o : Option Job). SomeAnswer o c.held (WroteReport c.out c.report (kept c) c.hall.new)) (sym e) (record {
+      inl (subst (λ (o : Option Job). SomeAnswer o c.held (WroteReport c.out c.report (slots_of_job c) c.hall.new)) (sym e) (record {
         whole = nothing c.out same;
-        begun = line_report (kept c) c.hall.new no_job (WrotePrefix c.report) refl left (handed.fault h).1;
+        begun = line_report (slots_of_job c) c.hall.new no_job (WrotePrefix c.report) refl left (handed.fault h).1;
       })),
     ))
 
@@ -289,7 +289,7 @@ served_calmly c reads out report served =
 
 -- ---- those who are kept
 
-kept_is : (c : Call) (j : Job) (mid : List Slot) → job c.words ≡ Some j → mid ≡ filter (is_kept (kinds_of (watched_of j))) c.hall.old → mid ≡ kept c
+kept_is : (c : Call) (j : Job) (mid : List Slot) → job c.words ≡ Some j → mid ≡ filter (is_kept (kinds_of (watched_of j))) c.hall.old → mid ≡ slots_of_job c
 kept_is c j mid e is = is ∙ sym (ap (λ (o : Option Job). kept_by o c.hall.old) e)
 
 -- a call that asks for a file
@@ -310,11 +310,11 @@ served_by_number c n e answered =
     (kept_is c (Generated n) (kept_by (Some (Generated n)) c.hall.old) e refl) answered)
 
 -- which job the words are
-pub job_files : (words : List (List ℕ)) (j : FileJob) → generated words ≡ None → file_job words ≡ Some j → job words ≡ Some (Files j)
+pub job_files : (words : List (List ℕ)) (j : FileJob) → generator_count words ≡ None → file_job words ≡ Some j → job words ≡ Some (Files j)
 job_files words j none e = ap (λ (o : Option ℕ). either o (file_job words)) none ∙ ap (λ (o : Option FileJob). either None o) e
 
-pub job_number : (words : List (List ℕ)) (n : ℕ) → generated words ≡ Some n → job words ≡ Some (Generated n)
+pub job_number : (words : List (List ℕ)) (n : ℕ) → generator_count words ≡ Some n → job words ≡ Some (Generated n)
 job_number words n e = ap (λ (o : Option ℕ). either o (file_job words)) e
 
-pub job_none : (words : List (List ℕ)) → generated words ≡ None → file_job words ≡ None → job words ≡ None
+pub job_none : (words : List (List ℕ)) → generator_count words ≡ None → file_job words ≡ None → job words ≡ None
 job_none words none e = ap (λ (o : Option ℕ). either o (file_job words)) none ∙ ap (λ (o : Option FileJob). either None o) e

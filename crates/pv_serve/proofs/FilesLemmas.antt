@@ -8,7 +8,7 @@ use Rattle.pv_script.specs.declared.reading.ReadError.{ReadError}
 use Rattle.pv_serve.specs.Plans.{files_named}
 use Rattle.pv_serve.specs.Comes.{source_limit}
 use Rattle.pv_serve.specs.Judged.{script_limit}
-use Rattle.pv_serve.specs.Answer.{needed, script_held}
+use Rattle.pv_serve.specs.Answer.{script_needed, script_held}
 use Rattle.pv_serve.specs.Outside.{AnyRose}
 use Rattle.pv_serve.specs.Serving.{AreRead}
 use Rattle.pv_serve.proofs.ComesLemmas.{source_limit_is}
@@ -67,7 +67,7 @@ read_long : (file : List ℕ) (script : Option (List ℕ)) (held : List ℕ → 
 read_long file script held source long told = by (held file) told
   where
     by : (o : Option (List ℕ)) → IfSome o (λ all. source ≡ take (source_limit + 1) all)
-        → IfSome o (λ all. IfSome (needed all (script_held script held)) (λ text. (source ≡ take (source_limit + 1) all) × ([] ≡ take (script_limit + 1) text)))
+        → IfSome o (λ all. IfSome (script_needed all (script_held script held)) (λ text. (source ≡ take (source_limit + 1) all) × ([] ≡ take (script_limit + 1) text)))
     by None h = tt
     by (Some all) h =
         let long_all = was_long source_limit all (subst (λ (s : List ℕ). source_limit < length s) h long) in
@@ -83,7 +83,7 @@ read_short : (file : List ℕ) (script : Option (List ℕ)) (held : List ℕ →
 read_short file script held source text short told read = by (held file) told
   where
     by : (o : Option (List ℕ)) → IfSome o (λ all. source ≡ take (source_limit + 1) all)
-        → IfSome o (λ all. IfSome (needed all (script_held script held)) (λ rest. (source ≡ take (source_limit + 1) all) × (text ≡ take (script_limit + 1) rest)))
+        → IfSome o (λ all. IfSome (script_needed all (script_held script held)) (λ rest. (source ≡ take (source_limit + 1) all) × (text ≡ take (script_limit + 1) rest)))
     by None h = tt
     by (Some all) h =
         let short_all = was_short source_limit all (subst (λ (s : List ℕ). length s ≤ source_limit) h short) in

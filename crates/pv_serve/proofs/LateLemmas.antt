@@ -2,7 +2,7 @@
 use Rattle.std.proofs.Common.{◌≡◌, ℕ, Bool, true, false, List, refl, sym, ◌∙◌, subst}
 use Rattle.std.specs.Prelude.{Option, Some, None, IsSomeAnd, IfNone, map, is_none}
 use Rattle.pv_script.specs.Lines.{ScriptLine}
-use Rattle.pv_typed.specs.Tables.{Stored, whole}
+use Rattle.pv_typed.specs.Tables.{Stored, whole_unit}
 use Rattle.pv_world.specs.Worlds.{Worth}
 use Rattle.pv_eval.specs.States.{Res}
 use Rattle.pv_exec.specs.declared.outcome.Outcome.{Outcome}
@@ -56,9 +56,9 @@ ending_by r names o = record {
 
 -- the run of these tables by these sides gives the verdict that is its end
 run_gives : (u : Stored) (lines : List ScriptLine) (bound : ℕ) (zap : Bool) (sides : List Bool) (o : Outcome) → outcome_of (run_at u (Some sides) zap lines bound) ≡ Some o
-    → UnitGives (whole u) lines (task.Settle bound zap) (Some sides) (Settled (ending_by (run_at u (Some sides) zap lines bound) (whole u).names o) bound false)
+    → UnitGives (whole_unit u) lines (task.Settle bound zap) (Some sides) (Settled (ending_by (run_at u (Some sides) zap lines bound) (whole_unit u).names o) bound false)
 run_gives u lines bound zap sides o e = (
-  ending_by (run_at u (Some sides) zap lines bound) (whole u).names o,
+  ending_by (run_at u (Some sides) zap lines bound) (whole_unit u).names o,
   record {
     run = run_at u (Some sides) zap lines bound;
     runs = record { tables = u; stands = refl; is = refl };
@@ -73,10 +73,10 @@ some_and (Some x) P h = (x, refl, h)
 
 unit_right : (u : Stored) (lines : List ScriptLine) (bound : ℕ) (zap : Bool) (ran : Ran) (names : List (List ℕ)) (shown : Shown) → RanAs (run_at u None zap lines bound) ran
     → shown.output ≡ (end_of (run_at u None zap lines bound)).output → names ≡ u.names → SettlesAlike u bound zap lines ran → IsUndefinedByAll u bound zap lines ran
-    → IsRight (UnitGives (whole u) lines (task.Settle bound zap)) bound (ending_of ran names shown)
+    → IsRight (UnitGives (whole_unit u) lines (task.Settle bound zap)) bound (ending_of ran names shown)
 unit_right u lines bound zap ran names shown is printed named alike all = record {
   alike = λ decided. let a = alike decided in record {
-    again = ending_by (run_at u (Some (map is_high ran.sides)) zap lines bound) (whole u).names ran.outcome;
+    again = ending_by (run_at u (Some (map is_high ran.sides)) zap lines bound) (whole_unit u).names ran.outcome;
     gives = run_gives u lines bound zap (map is_high ran.sides) ran.outcome (a.outcome ∙ is.outcome);
     outcome = refl;
     turns = a.turns ∙ sym is.turns;
@@ -87,7 +87,7 @@ unit_right u lines bound zap ran names shown is printed named alike all = record
       let b = all undefined sides many in
       let o = some_and (outcome_of (run_at u (Some sides) zap lines bound)) IsUndefined b.undefined in
       record {
-        again = ending_by (run_at u (Some sides) zap lines bound) (whole u).names o.0;
+        again = ending_by (run_at u (Some sides) zap lines bound) (whole_unit u).names o.0;
         gives = run_gives u lines bound zap sides o.0 o.1;
         undefined = o.2;
         sooner = b.turns;
@@ -97,7 +97,7 @@ unit_right u lines bound zap ran names shown is printed named alike all = record
 settled_by : (u : Stored) (lines : List ScriptLine) (bound : ℕ) (zap : Bool) (sides : Option (List Bool)) (ran : Ran) (names : List (List ℕ)) (shown : Shown)
     → RanAs (run_at u sides zap lines bound) ran → shown.output ≡ (end_of (run_at u sides zap lines bound)).output → names ≡ u.names
     → IfNone sides (SettlesAlike u bound zap lines ran) → IfNone sides (IsUndefinedByAll u bound zap lines ran)
-    → SettlesRight (UnitGives (whole u) lines (task.Settle bound zap)) (Settled (ending_of ran names shown) bound (is_none sides))
+    → SettlesRight (UnitGives (whole_unit u) lines (task.Settle bound zap)) (Settled (ending_of ran names shown) bound (is_none sides))
 settled_by u lines bound zap None ran names shown is printed named alike all = unit_right u lines bound zap ran names shown is printed named alike all
 settled_by u lines bound zap (Some ds) ran names shown is printed named alike all = tt
 
@@ -105,9 +105,9 @@ settled_by u lines bound zap (Some ds) ran names shown is printed named alike al
 pub settled_right : (u : Stored) (lines : List ScriptLine) (bound : ℕ) (zap : Bool) (sides : Option (List Bool)) (ran : Ran) (names : List (List ℕ)) (shown : Shown) (listed : Bool)
     → listed ≡ is_none sides → RanAs (run_at u sides zap lines bound) ran → shown.output ≡ (end_of (run_at u sides zap lines bound)).output → names ≡ u.names
     → IfNone sides (SettlesAlike u bound zap lines ran) → IfNone sides (IsUndefinedByAll u bound zap lines ran)
-    → SettlesRight (UnitGives (whole u) lines (task.Settle bound zap)) (Settled (ending_of ran names shown) bound listed)
+    → SettlesRight (UnitGives (whole_unit u) lines (task.Settle bound zap)) (Settled (ending_of ran names shown) bound listed)
 settled_right u lines bound zap sides ran names shown listed told is printed named alike all =
-    subst (λ (b : Bool). SettlesRight (UnitGives (whole u) lines (task.Settle bound zap)) (Settled (ending_of ran names shown) bound b)) (sym told)
+    subst (λ (b : Bool). SettlesRight (UnitGives (whole_unit u) lines (task.Settle bound zap)) (Settled (ending_of ran names shown) bound b)) (sym told)
     (settled_by u lines bound zap sides ran names shown is printed named alike all)
 
 -- ---- sides that are given, or none

@@ -6,7 +6,7 @@ use Rattle.pv_script.specs.declared.scripts.ScriptError.TheVariants as why
 use Rattle.pv_script.specs.Lines.{ScriptLine}
 use Rattle.pv_script.specs.Scripts.{script_of}
 use Rattle.pv_script.specs.LineView.{OrNoMemory}
-use Rattle.pv_typed.specs.Tables.{Stored, whole}
+use Rattle.pv_typed.specs.Tables.{Stored, whole_unit}
 use Rattle.pv_exec.specs.Run.{setting_of, run_of}
 use Rattle.pv_exec.specs.declared.program.Ran.{Ran}
 use Rattle.pv_exec.specs.declared.program.RunError.{RunError}
@@ -42,7 +42,7 @@ quiet out hall same stays = record { gains = nothing out same; told = stays }
 -- ---- a program
 
 abbrev to_run : (source script : List ℕ) (u : Stored) (lines : List ScriptLine) → IsLoadedProgram source script u lines → IsToRun source script
-to_run source script u lines p = record { lines = lines; unit = whole u; short = p.short; reads = p.reads; comes = p.comes }
+to_run source script u lines p = record { lines = lines; unit = whole_unit u; short = p.short; reads = p.reads; comes = p.comes }
 
 pub ran_outcome : (source script : List ℕ) (u : Stored) (lines : List ScriptLine) (bound : ℕ) (zap : Bool) (sides : Option (List Bool)) (out : Sunk) (hall : Halls) (ran : Ran) (names : List (List ℕ))
     → IsLoadedProgram source script u lines → IsRan out hall ran names (run_of (setting_of u bound sides zap) lines) u.names → IsOutcome source script bound zap sides out hall (judgement.Ran ran names bound)

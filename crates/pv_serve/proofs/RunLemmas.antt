@@ -12,7 +12,7 @@ use Rattle.pv_script.proofs.GainsLemmas.{gains_nothing, prefix_whole}
 use Rattle.pv_watch.specs.Slots.{Told}
 use Rattle.pv_typed.specs.TypedUnits.{WholeUnit}
 use Rattle.pv_typed.specs.Mains.{literal_text, heap_text}
-use Rattle.pv_typed.specs.Tables.{Stored, whole}
+use Rattle.pv_typed.specs.Tables.{Stored, whole_unit}
 use Rattle.pv_typed.specs.Known.{AreKnown}
 use Rattle.pv_world.specs.Worlds.{Worth}
 use Rattle.pv_eval.specs.States.{Res, State}
@@ -61,7 +61,7 @@ abbrev pub shown_by : Res Worth → Shown
 shown_by run = record { output = (end_of run).output; events = map event_of (end_of run).events }
 
 -- the run of these tables is one of the unit that they stand for
-abbrev pub is_run : (u : Stored) (lines : List ScriptLine) (bound : ℕ) (zap : Bool) (sides : Option (List Bool)) → IsRunBy (whole u) lines bound zap sides (run_of (setting_of u bound sides zap) lines)
+abbrev pub is_run : (u : Stored) (lines : List ScriptLine) (bound : ℕ) (zap : Bool) (sides : Option (List Bool)) → IsRunBy (whole_unit u) lines bound zap sides (run_of (setting_of u bound sides zap) lines)
 is_run u lines bound zap sides = record { tables = u; stands = refl; is = refl }
 
 pub run_ends : (unit : WholeUnit) (lines : List ScriptLine) (bound : ℕ) (zap : Bool) (sides : Option (List Bool)) (run : Res Worth) (ran : Ran) (names : List (List ℕ))
@@ -73,10 +73,10 @@ run_ends unit lines bound zap sides run ran names runs is named = record {
 }
 
 pub run_judged : (u : Stored) (lines : List ScriptLine) (bound : ℕ) (zap : Bool) (out : Sunk) (hall : Halls) (run : Res Worth) (ran : Ran) (names : List (List ℕ))
-    → IsRunBy (whole u) lines bound zap None run → IsRan out hall ran names run u.names → UnitJudged (whole u) lines (task.Run bound zap) None out hall (judgement.Ran ran names bound)
+    → IsRunBy (whole_unit u) lines bound zap None run → IsRan out hall ran names run u.names → UnitJudged (whole_unit u) lines (task.Run bound zap) None out hall (judgement.Ran ran names bound)
 run_judged u lines bound zap out hall run ran names runs is = record {
   shown = shown_by run;
-  gives = (ending_of ran names (shown_by run), run_ends (whole u) lines bound zap None run ran names runs is.ended is.named, refl);
+  gives = (ending_of ran names (shown_by run), run_ends (whole_unit u) lines bound zap None run ran names runs is.ended is.named, refl);
   right = tt;
   gains = is.gains;
   told = subst (λ (texts : List (List ℕ)). Told hall.old (map event_of (end_of run).events) texts hall.new) (sym is.named) is.told;
@@ -92,14 +92,14 @@ run_cut_off unit lines bound zap out hall run error.WriteFault runs left = recor
 pub settled_judged : (u : Stored) (lines : List ScriptLine) (bound : ℕ) (zap : Bool) (sides : Option (List Bool)) (out : Sunk) (nobody hall : Halls) (ran : Ran) (names : List (List ℕ)) (listed : Bool)
     → hall.new ≡ hall.old → listed ≡ is_none sides → IsRan out nobody ran names (run_at u sides zap lines bound) u.names
     → IfNone sides (SettlesAlike u bound zap lines ran) → IfNone sides (IsUndefinedByAll u bound zap lines ran)
-    → UnitJudged (whole u) lines (task.Settle bound zap) sides out hall (judgement.Settled ran names bound listed)
+    → UnitJudged (whole_unit u) lines (task.Settle bound zap) sides out hall (judgement.Settled ran names bound listed)
 settled_judged u lines bound zap sides out nobody hall ran names listed same told is alike all =
     let run = run_at u sides zap lines bound in
     record {
       shown = shown_by run;
       gives = (
         ending_of ran names (shown_by run),
-        run_ends (whole u) lines bound zap sides run ran names (is_run u lines bound zap sides) is.ended is.named,
+        run_ends (whole_unit u) lines bound zap sides run ran names (is_run u lines bound zap sides) is.ended is.named,
         ap (λ (b : Bool). Settled (ending_of ran names (shown_by run)) bound b) told,
       );
       right = settled_right u lines bound zap sides ran names (shown_by run) listed told is.ended refl is.named alike all;

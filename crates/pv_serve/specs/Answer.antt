@@ -43,8 +43,8 @@ pub record SomeVerdict (source script : List ℕ) (task : Task) (sides : Option 
   pub answered : P (answer_of verdict)
 
 -- 5.2.4.1: of a source that is too long no script is needed
-abbrev pub needed : (source : List ℕ) → Option (List ℕ) → Option (List ℕ)
-needed source script = if nat_lt source_limit (length source) then Some [] else script
+abbrev pub script_needed : (source : List ℕ) → Option (List ℕ) → Option (List ℕ)
+script_needed source script = if nat_lt source_limit (length source) then Some [] else script
 
 -- docs/FORMATS.md, Scripts of addresses (the memory model): the bytes of the script that a job names, where they are told; one that names none has none
 abbrev pub script_held : Option (List ℕ) → (held : List ℕ → Option (List ℕ)) → Option (List ℕ)
@@ -53,7 +53,7 @@ script_held (Some name) held = held name
 
 -- docs/FORMATS.md, Words (5.1.2.2.1p2): of the source in a file and its script, where they are told, P holds; nothing is said where a file that is needed isn't told
 abbrev pub OfFiles : (file : List ℕ) (script : Option (List ℕ)) (held : List ℕ → Option (List ℕ)) → ((source text : List ℕ) → Type 0) → Type 0
-OfFiles file script held P = IfSome (held file) (λ source. IfSome (needed source (script_held script held)) (P source))
+OfFiles file script held P = IfSome (held file) (λ source. IfSome (script_needed source (script_held script held)) (P source))
 
 -- docs/FORMATS.md, Words (5.1.2.2.1p2): of a job's source and its script, where they are told, P holds. A source that is generated has no script
 abbrev pub OfSource : Job → (held : List ℕ → Option (List ℕ)) → ((source script : List ℕ) → Type 0) → Type 0

@@ -25,14 +25,14 @@ pub record Call : Type 0 where
   pub status : ℕ
 
 -- docs/FORMATS.md, What watchers say (the memory model): those of the hall whom the job keeps
-abbrev pub kept : Call → List Slot
-kept c = kept_by (job c.words) c.hall.old
+abbrev pub slots_of_job : Call → List Slot
+slots_of_job c = kept_by (job c.words) c.hall.old
 
 -- docs/FORMATS.md: all of the output was written (5.1.2.3p6), and all of the report, and the status is that of the answer (7.22.4.4p5)
 pub record IsAnswer (c : Call) (a : Answer) : Type 0 where
   pub status : c.status ≡ a.status
   pub out : Wrote c.out a.out
-  pub report : HasReport (kept c) c.hall.new a (Wrote c.report)
+  pub report : HasReport (slots_of_job c) c.hall.new a (Wrote c.report)
 
 -- 5.1.2.3p6: all of the output was written, and a first part of the report
 pub record WroteReport (out report : Sunk) (kept new : List Slot) (a : Answer) : Type 0 where
@@ -60,10 +60,10 @@ facts_of c = record {
   WriteFailed = SinkRose c.out ⊎ SinkRose c.report;
   ReportFailed = SinkRose c.report;
   Answered = SomeAnswer (job c.words) c.held (IsAnswer c);
-  AnswerBegun = SomeAnswer (job c.words) c.held (WroteReport c.out c.report (kept c) c.hall.new)
-      ⊎ SomeEnd (job c.words) c.held (WroteOutput c.out c.report (kept c) c.hall.new);
+  AnswerBegun = SomeAnswer (job c.words) c.held (WroteReport c.out c.report (slots_of_job c) c.hall.new)
+      ⊎ SomeEnd (job c.words) c.held (WroteOutput c.out c.report (slots_of_job c) c.hall.new);
   FaultTold = IsAnswer c read_fault;
-  FaultBegun = WroteReport c.out c.report (kept c) c.hall.new read_fault;
+  FaultBegun = WroteReport c.out c.report (slots_of_job c) c.hall.new read_fault;
   Unreported = WroteNoReport c;
 }
 

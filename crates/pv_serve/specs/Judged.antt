@@ -4,7 +4,7 @@ use Rattle.pv_script.specs.declared.scripts.ScriptError.{ScriptError}
 use Rattle.pv_script.specs.Lines.{ScriptLine}
 use Rattle.pv_script.specs.Scripts.{script_of}
 use Rattle.pv_typed.specs.TypedUnits.{WholeUnit}
-use Rattle.pv_typed.specs.Tables.{Stored, whole}
+use Rattle.pv_typed.specs.Tables.{Stored, whole_unit}
 use Rattle.pv_describe.specs.Describing.{check_text, layout_text}
 use Rattle.pv_world.specs.Worlds.{Worth}
 use Rattle.pv_eval.specs.States.{Res, State}
@@ -34,7 +34,7 @@ pub record Ends (run : Res Worth) (texts : List (List ℕ)) (e : Ending) : Type 
 -- crate above). So it is the run of any tables that stand for the unit.
 pub record IsRunBy (unit : WholeUnit) (lines : List ScriptLine) (bound : ℕ) (zap : Bool) (sides : Option (List Bool)) (run : Res Worth) : Type 0 where
   pub tables : Stored
-  pub stands : whole tables ≡ unit
+  pub stands : whole_unit tables ≡ unit
   pub is : run ≡ run_of (setting_of tables bound sides zap) lines
 
 -- 5.1.2.3: the run of a unit ends so

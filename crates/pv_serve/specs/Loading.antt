@@ -8,7 +8,7 @@ use Rattle.pv_script.specs.declared.scripts.ScriptError.{ScriptError}
 use Rattle.pv_script.specs.declared.scripts.ScriptError.TheVariants as script
 use Rattle.pv_script.specs.Lines.{ScriptLine}
 use Rattle.pv_script.specs.Scripts.{script_of}
-use Rattle.pv_typed.specs.Tables.{Stored, whole}
+use Rattle.pv_typed.specs.Tables.{Stored, whole_unit}
 use Rattle.pv_unit.specs.declared.checking.CheckError.{CheckError}
 use Rattle.pv_unit.specs.declared.checking.CheckError.TheVariants as typing
 use Rattle.pv_serve.specs.declared.words.Task.{Task}
@@ -85,7 +85,7 @@ pub record IsScriptRefused (source text : List ℕ) (why : ScriptError) : Type 0
 pub record IsLoadedProgram (source text : List ℕ) (unit : Stored) (lines : List ScriptLine) : Type 0 where
   pub short : length source ≤ source_limit
   pub reads : script_of text ≡ Ok lines
-  pub comes : Comes source (Program (whole unit))
+  pub comes : Comes source (Program (whole_unit unit))
   pub fit : IsFit unit
 
 -- a source with its script is what the code answers
@@ -96,7 +96,7 @@ IsLoaded source text (loaded.Script why) = IsScriptRefused source text why
 
 -- 6.9: what the code answers: the typing that its tables stand for, or a refusal
 abbrev pub reading_of : Result Stored declared.Refused → Reading
-reading_of (Ok unit) = Program (whole unit)
+reading_of (Ok unit) = Program (whole_unit unit)
 reading_of (Err why) = Bad (refusal_of why)
 
 -- 6.9: tables that the code answers are such

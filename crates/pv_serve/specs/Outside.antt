@@ -20,8 +20,8 @@ pub record Sunk : Type 0 where
   pub faults_new : ℕ
 
 -- 7.21.2p2: a sink before a call and after it, by what it tells
-abbrev pub sunk : {S : Type 0} → (written : S → Option (List ℕ)) → (faults : S → ℕ) → (old new : S) → Sunk
-sunk written faults old new = record { old = written old; new = written new; faults_old = faults old; faults_new = faults new }
+abbrev pub sink_change : {S : Type 0} → (written : S → Option (List ℕ)) → (faults : S → ℕ) → (old new : S) → Sunk
+sink_change written faults old new = record { old = written old; new = written new; faults_old = faults old; faults_new = faults new }
 
 -- 7.21.8.2p3: a write to the sink failed
 abbrev pub SinkRose : Sunk → Type 0

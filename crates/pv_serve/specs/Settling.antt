@@ -2,7 +2,7 @@
 -- (the memory model), or why it has none.
 use Rattle.std.specs.Prelude.{◌≡◌, ◌⊎◌, ℕ, ◌≤◌, Bool, List, [], length, map, Option, None, Some}
 use Rattle.pv_typed.specs.Known.{Each}
-use Rattle.pv_typed.specs.Tables.{Stored, whole}
+use Rattle.pv_typed.specs.Tables.{Stored, whole_unit}
 use Rattle.pv_watch.specs.Slots.{Told}
 use Rattle.pv_world.specs.Worlds.{Worth}
 use Rattle.pv_eval.specs.States.{State, Res}
@@ -78,7 +78,7 @@ HasLetOut out hall stage taken names error.WriteFault =
 pub record IsLetOut (source script : List ℕ) (bound : ℕ) (zap : Bool) (sides : Option (List Bool)) (out : Sunk) (hall : Halls) (e : RunError) : Type 0 where
   pub job : IsToRun source script
   pub tables : Stored
-  pub stands : whole tables ≡ job.unit
+  pub stands : whole_unit tables ≡ job.unit
   pub left : HasLetOut out hall (stage_of tables sides zap job.lines) (end_at tables bound sides zap job.lines).taken job.unit.names e
 
 -- 7.21.3p3: of want of memory nothing is said

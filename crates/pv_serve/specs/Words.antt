@@ -103,31 +103,31 @@ settled_by file o =
     record { file = file; script = o.script; task = task.Settle (unwrap_or o.turns default_turns) (unwrap_or o.zap true); sides = o.sides; watched = nobody }
 
 -- docs/FORMATS.md, Words (5.1.2.2.1p2): what describes a source has no options
-abbrev pub described : Task → (file : List ℕ) → List (List ℕ) → Option FileJob
-described t file [] = Some (record { file = file; script = None; task = t; sides = None; watched = nobody })
-described t file _ = None
+abbrev pub description_job : Task → (file : List ℕ) → List (List ℕ) → Option FileJob
+description_job t file [] = Some (record { file = file; script = None; task = t; sides = None; watched = nobody })
+description_job t file _ = None
 
 -- docs/FORMATS.md, Words (5.1.2.2.1p2): what a mode asks of a file, with these words behind it
-abbrev pub asked : (mode file : List ℕ) → List (List ℕ) → Option FileJob
-asked mode file rest =
+abbrev pub file_job_for : (mode file : List ℕ) → List (List ℕ) → Option FileJob
+file_job_for mode file rest =
     if bytes_eq mode (codes "run") then option_map (run_by file) (options whose.Run no_options rest)
     else if bytes_eq mode (codes "settle") then option_map (settled_by file) (options whose.Settle no_options rest)
-    else if bytes_eq mode (codes "check") then described task.Check file rest
-    else if bytes_eq mode (codes "layout") then described task.Layout file rest else None
+    else if bytes_eq mode (codes "check") then description_job task.Check file rest
+    else if bytes_eq mode (codes "layout") then description_job task.Layout file rest else None
 
 -- docs/FORMATS.md, Words (5.1.2.2.1p2): `run FILE` with `--script F`, `--turns N`, `--zap V` and `--watch W` or without, `settle FILE` with `--script F`,
 -- `--turns N`, `--zap V` and `--sides S` or without, `check FILE`, `layout FILE`, where FILE and F have a byte
 abbrev pub file_job : List (List ℕ) → Option FileJob
-file_job (mode ∷ file ∷ rest) = if nat_lt 0 (length file) then asked mode file rest else None
+file_job (mode ∷ file ∷ rest) = if nat_lt 0 (length file) then file_job_for mode file rest else None
 file_job _ = None
 
 -- docs/FORMATS.md, Words (5.1.2.2.1p2): `gen N`, with N from 1 to 8192
-abbrev pub generated : List (List ℕ) → Option ℕ
-generated (mode ∷ number ∷ []) = if bytes_eq mode (codes "gen") then number_to 8192 number else None
-generated _ = None
+abbrev pub generator_count : List (List ℕ) → Option ℕ
+generator_count (mode ∷ number ∷ []) = if bytes_eq mode (codes "gen") then number_to 8192 number else None
+generator_count _ = None
 
 -- 5.1.2.2.1p2: the job that the words ask for, if they do; anything else is no job (docs/FORMATS.md)
 abbrev pub job : List (List ℕ) → Option Job
-job words = option_or (option_map Generated (generated words)) (option_map Files (file_job words))
+job words = option_or (option_map Generated (generator_count words)) (option_map Files (file_job words))
 
 -- ---- what the code reads

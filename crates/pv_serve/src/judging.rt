@@ -16,7 +16,7 @@ ghost use Rattle.pv_serve.specs.Fitting.{IsFit};
 ghost use Rattle.pv_serve.specs.Comes.{source_limit};
 ghost use Rattle.pv_serve.specs.Judged.{Judged, Ends, script_limit};
 ghost use Rattle.pv_serve.specs.OneVerdict.{IsLeftToRun, BothRun};
-ghost use Rattle.pv_serve.specs.Outside.{sunk, halls};
+ghost use Rattle.pv_serve.specs.Outside.{sink_change, halls};
 ghost use Rattle.pv_serve.specs.Judging.{HasFault};
 ghost use Rattle.pv_serve.specs.Settling.{IsRan, IsOutcome, IsLeft, IsUnfinished, HasLetOut, IsStreamed, IsSettledAgain, IsUndefinedBy};
 ghost use Rattle.pv_serve.specs.Watching.{AreFresh, AreTold, IsReport, stories};
@@ -83,15 +83,15 @@ pub fn judge<O: Sink>(
 ) -> Result<Judgement, RunError>
     requires { IsBound bound }
     ensures judged { IfOk result (IsOutcome source.now script.now bound zap (highs sides.entry (λ x. x.now))
-        (sunk O.written O.faults out.old out.new) (halls hall.old hall.new its_kind its_wants seen)) }
+        (sink_change O.written O.faults out.old out.new) (halls hall.old hall.new its_kind its_wants seen)) }
     ensures part { IfErr result (IsUnfinished source.now script.now bound zap (highs sides.entry (λ x. x.now))
-        (sunk O.written O.faults out.old out.new) (halls hall.old hall.new its_kind its_wants seen)) }
+        (sink_change O.written O.faults out.old out.new) (halls hall.old hall.new its_kind its_wants seen)) }
     ensures cause { HasFault result (O.faults out.old) (O.faults out.new) }
     ensures late { IfOk result (λ j. IfNone sides.entry
-        (IsSettledAgain source.now script.now bound zap (sunk O.written O.faults out.old out.new) j)) }
+        (IsSettledAgain source.now script.now bound zap (sink_change O.written O.faults out.old out.new) j)) }
     ensures sooner { IfOk result (λ j. IfNone sides.entry (IsUndefinedBy source.now script.now bound zap j)) }
     ensures streams { IfErr result (IsStreamed source.now script.now bound zap (highs sides.entry (λ x. x.now))
-        (sunk O.written O.faults out.old out.new) (halls hall.old hall.new its_kind its_wants seen)) }
+        (sink_change O.written O.faults out.old out.new) (halls hall.old hall.new its_kind its_wants seen)) }
 {
     match load(alloc, source, script) {
         Ok(Loaded::Program { unit, lines }) => {
@@ -117,16 +117,16 @@ fn run_program<O: Sink>(
     requires fit { IsFit unit }
     requires bound { IsBound bound }
     ensures judged { (source script : List ℕ) → IsLoadedProgram source script unit lines → IfOk result (IsOutcome source script bound zap
-        (highs sides.entry (λ x. x.now)) (sunk O.written O.faults out.old out.new) (halls hall.old hall.new its_kind its_wants seen)) }
+        (highs sides.entry (λ x. x.now)) (sink_change O.written O.faults out.old out.new) (halls hall.old hall.new its_kind its_wants seen)) }
     ensures part { (source script : List ℕ) → IsLoadedProgram source script unit lines → IfErr result (IsUnfinished source script bound zap
-        (highs sides.entry (λ x. x.now)) (sunk O.written O.faults out.old out.new) (halls hall.old hall.new its_kind its_wants seen)) }
+        (highs sides.entry (λ x. x.now)) (sink_change O.written O.faults out.old out.new) (halls hall.old hall.new its_kind its_wants seen)) }
     ensures cause { HasFault result (O.faults out.old) (O.faults out.new) }
     ensures late { (source script : List ℕ) → IsLoadedProgram source script unit lines → IfOk result (λ j. IfNone sides.entry
-        (IsSettledAgain source script bound zap (sunk O.written O.faults out.old out.new) j)) }
+        (IsSettledAgain source script bound zap (sink_change O.written O.faults out.old out.new) j)) }
     ensures sooner { (source script : List ℕ) → IsLoadedProgram source script unit lines → IfOk result (λ j. IfNone sides.entry
         (IsUndefinedBy source script bound zap j)) }
     ensures streams { (source script : List ℕ) → IsLoadedProgram source script unit lines → IfErr result (IsStreamed source script bound zap
-        (highs sides.entry (λ x. x.now)) (sunk O.written O.faults out.old out.new) (halls hall.old hall.new its_kind its_wants seen)) }
+        (highs sides.entry (λ x. x.now)) (sink_change O.written O.faults out.old out.new) (halls hall.old hall.new its_kind its_wants seen)) }
 {
     match run_unit(alloc, unit, lines, bound, zap, sides, out, hall) {
         Ok(named) => Ok(Judgement::Ran {
@@ -158,14 +158,14 @@ pub(crate) fn run_unit<O: Sink>(
 ) -> Result<Named, RunError>
     requires fit { IsFit unit }
     requires bound { IsBound bound }
-    ensures ran { IfOk result (λ r. IsRan (sunk O.written O.faults out.old out.new) (halls hall.old hall.new its_kind its_wants seen)
+    ensures ran { IfOk result (λ r. IsRan (sink_change O.written O.faults out.old out.new) (halls hall.old hall.new its_kind its_wants seen)
         r.ran r.names (run_of (setting_of unit bound (highs sides.entry (λ x. x.now)) zap) lines) unit.names) }
-    ensures left { IfErr result (λ e. IsLeft (sunk O.written O.faults out.old out.new) (halls hall.old hall.new its_kind its_wants seen)
+    ensures left { IfErr result (λ e. IsLeft (sink_change O.written O.faults out.old out.new) (halls hall.old hall.new its_kind its_wants seen)
         e (run_of (setting_of unit bound (highs sides.entry (λ x. x.now)) zap) lines) unit.names) }
     ensures cause { HasFault result (O.faults out.old) (O.faults out.new) }
     ensures late { IfOk result (λ r. IfNone sides.entry (SettlesAlike unit bound zap lines r.ran)) }
     ensures sooner { IfOk result (λ r. IfNone sides.entry (IsUndefinedByAll unit bound zap lines r.ran)) }
-    ensures streams { IfErr result (HasLetOut (sunk O.written O.faults out.old out.new) (halls hall.old hall.new its_kind its_wants seen)
+    ensures streams { IfErr result (HasLetOut (sink_change O.written O.faults out.old out.new) (halls hall.old hall.new its_kind its_wants seen)
         (stage_of unit (highs sides.entry (λ x. x.now)) zap lines) (end_at unit bound (highs sides.entry (λ x. x.now)) zap lines).taken unit.names) }
 {
     match run(alloc, &unit, lines, bound, zap, sides, out, hall) {

@@ -9,7 +9,7 @@ ghost use Rattle.pv_serve.specs.Jobs.{Generated, kinds_of, default_turns};
 ghost use Rattle.pv_serve.specs.ReadWords.{IsTask, asked_job};
 ghost use Rattle.pv_serve.specs.Words.{texts, file_job as file_job_of, job as job_of};
 ghost use Rattle.pv_serve.specs.Answer.{SomeAnswer};
-ghost use Rattle.pv_serve.specs.Outside.{sunk, halls};
+ghost use Rattle.pv_serve.specs.Outside.{sink_change, halls};
 ghost use Rattle.pv_serve.specs.Causes.{Call, Served, IsAnswer};
 ghost use Rattle.pv_serve.specs.Serving.{Answered, FilesServed, HasStory, Reported, IsReportOn, kept_halls};
 ghost use Rattle.pv_script.specs.Calm.{calm_held, calm_written};
@@ -52,8 +52,8 @@ pub fn serve<F: Files, O: Sink, R: Sink>(
       held = F.held files.old;
       faults_old = F.faults files.old;
       faults_new = F.faults files.new;
-      out = sunk O.written O.faults out.old out.new;
-      report = sunk R.written R.faults report.old report.new;
+      out = sink_change O.written O.faults out.old out.new;
+      report = sink_change R.written R.faults report.old report.new;
       hall = halls hall.old hall.new its_kind its_wants seen;
       status = result;
     } in Served call }
@@ -95,7 +95,7 @@ fn run_generated<O: Sink, R: Sink>(
 ) -> u8
     requires number { (0 < number) × (number ≤ 8192) }
     ensures { Answered (source_text number) [] (Task.Run default_turns true) None
-        (sunk O.written O.faults out.old out.new) (sunk R.written R.faults report.old report.new)
+        (sink_change O.written O.faults out.old out.new) (sink_change R.written R.faults report.old report.new)
         (kept_halls (Generated number) (halls hall.old hall.new its_kind its_wants seen)) result }
 {
     match keep(alloc, COUNTED, hall) {
@@ -123,7 +123,7 @@ fn run_files<F: Files, O: Sink, R: Sink>(
 ) -> u8
     requires task { IsTask asked.task }
     ensures served { FilesServed (asked_job asked.entry) (F.held files.old) (F.faults files.old) (F.faults files.new)
-        (sunk O.written O.faults out.old out.new) (sunk R.written R.faults report.old report.new)
+        (sink_change O.written O.faults out.old out.new) (sink_change R.written R.faults report.old report.new)
         (halls hall.old hall.new its_kind its_wants seen) result }
     ensures files_same { (n : List ℕ) → F.held files.new n ≡ F.held files.old n }
 {
@@ -145,7 +145,7 @@ fn answer_asked<O: Sink, R: Sink>(
 ) -> u8
     requires { IsTask asked.task }
     ensures { Answered text.now.source.items text.now.script.items asked.entry.task (asked_job asked.entry).sides
-        (sunk O.written O.faults out.old out.new) (sunk R.written R.faults report.old report.new)
+        (sink_change O.written O.faults out.old out.new) (sink_change R.written R.faults report.old report.new)
         (halls hall.old hall.new its_kind its_wants seen) result }
 {
     let source = text.source.as_slice();
@@ -174,8 +174,8 @@ fn answer<O: Sink, R: Sink>(
     hall: &mut Hall,
 ) -> u8
     requires { IsTask task }
-    ensures { Answered source.now script.now task (highs sides.entry (λ x. x.now)) (sunk O.written O.faults out.old out.new)
-        (sunk R.written R.faults report.old report.new) (halls hall.old hall.new its_kind its_wants seen) result }
+    ensures { Answered source.now script.now task (highs sides.entry (λ x. x.now)) (sink_change O.written O.faults out.old out.new)
+        (sink_change R.written R.faults report.old report.new) (halls hall.old hall.new its_kind its_wants seen) result }
 {
     match judge_task(alloc, source, script, task, sides, out, hall) {
         Err(RunError::NoMemory) => NO_MEMORY,
@@ -187,7 +187,7 @@ fn answer<O: Sink, R: Sink>(
 // Reports a judgement, by a text that is made whole first.
 fn told<R: Sink>(alloc: Global, judgement: &Judgement, report: &mut R, hall: &Hall) -> u8
     ensures { Reported judgement.now (hall_slots hall.now its_kind its_wants seen)
-        (sunk R.written R.faults report.old report.new) result }
+        (sink_change R.written R.faults report.old report.new) result }
 {
     match report_of(alloc, judgement, hall) {
         Err(_) => NO_MEMORY,
@@ -234,8 +234,8 @@ pub fn serve_calmly(
       held = λ n. Some (calm_held files.old n);
       faults_old = λ _. 0;
       faults_new = λ _. 0;
-      out = sunk calm_written (λ _. 0) out.old out.new;
-      report = sunk calm_written (λ _. 0) report.old report.new;
+      out = sink_change calm_written (λ _. 0) out.old out.new;
+      report = sink_change calm_written (λ _. 0) report.old report.new;
       hall = halls hall.old hall.new its_kind its_wants seen;
       status = result;
     } in (result ≡ 13) ⊎ SomeAnswer (job_of call.words) call.held (IsAnswer call) }

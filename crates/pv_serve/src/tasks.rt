@@ -1,12 +1,12 @@
 //! What a source with its script comes to by a task: it is run, or described, or refused.
 ghost use Rattle.std.specs.Prelude.{◌≡◌, ℕ, List, None, IfOk, IfErr};
-ghost use Rattle.pv_typed.specs.Tables.{whole};
+ghost use Rattle.pv_typed.specs.Tables.{whole_unit};
 ghost use Rattle.pv_describe.specs.Describing as describing;
 ghost use Rattle.pv_exec.specs.Answering.{highs};
 ghost use Rattle.pv_serve.specs.ReadWords.{IsTask, IsBound};
 ghost use Rattle.pv_serve.specs.Verdicts.{Described};
 ghost use Rattle.pv_serve.specs.Fitting.{IsFit};
-ghost use Rattle.pv_serve.specs.Outside.{Halls, sunk, halls};
+ghost use Rattle.pv_serve.specs.Outside.{Halls, sink_change, halls};
 ghost use Rattle.pv_serve.specs.Judging.{IsJudged, IsCutOff, nothing_shown, verdict_of, UnitJudged, UnitCutOff, HasFault};
 
 use crate::NoMemory;
@@ -33,9 +33,9 @@ pub(crate) fn judge_task<O: Sink>(
 ) -> Result<Judgement, RunError>
     requires { IsTask task }
     ensures judged { IfOk result (IsJudged source.now script.now task (highs sides.entry (λ x. x.now))
-        (sunk O.written O.faults out.old out.new) (halls hall.old hall.new its_kind its_wants seen)) }
+        (sink_change O.written O.faults out.old out.new) (halls hall.old hall.new its_kind its_wants seen)) }
     ensures part { IfErr result (IsCutOff source.now script.now task (highs sides.entry (λ x. x.now))
-        (sunk O.written O.faults out.old out.new) (halls hall.old hall.new its_kind its_wants seen)) }
+        (sink_change O.written O.faults out.old out.new) (halls hall.old hall.new its_kind its_wants seen)) }
     ensures cause { HasFault result (O.faults out.old) (O.faults out.new) }
 {
     match load(alloc, source, script) {
@@ -60,10 +60,10 @@ fn judge_unit<O: Sink>(
 ) -> Result<Judgement, RunError>
     requires fit { IsFit unit }
     requires task { IsTask task }
-    ensures judged { IfOk result (UnitJudged (whole unit) lines task (highs sides.entry (λ x. x.now))
-        (sunk O.written O.faults out.old out.new) (halls hall.old hall.new its_kind its_wants seen)) }
-    ensures part { IfErr result (UnitCutOff (whole unit) lines task (highs sides.entry (λ x. x.now))
-        (sunk O.written O.faults out.old out.new) (halls hall.old hall.new its_kind its_wants seen)) }
+    ensures judged { IfOk result (UnitJudged (whole_unit unit) lines task (highs sides.entry (λ x. x.now))
+        (sink_change O.written O.faults out.old out.new) (halls hall.old hall.new its_kind its_wants seen)) }
+    ensures part { IfErr result (UnitCutOff (whole_unit unit) lines task (highs sides.entry (λ x. x.now))
+        (sink_change O.written O.faults out.old out.new) (halls hall.old hall.new its_kind its_wants seen)) }
     ensures cause { HasFault result (O.faults out.old) (O.faults out.new) }
 {
     match task {
@@ -76,7 +76,7 @@ fn judge_unit<O: Sink>(
 
 // A unit is described by how many declarations it has, whatever its script says.
 fn checked(alloc: Global, unit: TypedUnit, _lines: Script) -> Result<Judgement, RunError>
-    ensures described { IfOk result (λ j. verdict_of j nothing_shown ≡ Described (describing.check_text (whole unit))) }
+    ensures described { IfOk result (λ j. verdict_of j nothing_shown ≡ Described (describing.check_text (whole_unit unit))) }
     ensures memory { IfErr result (λ e. e ≡ RunError.NoMemory) }
 {
     let text = check_text(alloc, &unit);
@@ -87,7 +87,7 @@ fn checked(alloc: Global, unit: TypedUnit, _lines: Script) -> Result<Judgement, 
 // A unit is described by the layouts of its types with a tag, whatever its script says.
 fn laid_out(alloc: Global, unit: TypedUnit, _lines: Script) -> Result<Judgement, RunError>
     requires { IsFit unit }
-    ensures described { IfOk result (λ j. verdict_of j nothing_shown ≡ Described (describing.layout_text (whole unit))) }
+    ensures described { IfOk result (λ j. verdict_of j nothing_shown ≡ Described (describing.layout_text (whole_unit unit))) }
     ensures memory { IfErr result (λ e. e ≡ RunError.NoMemory) }
 {
     let text = layout_text(alloc, &unit);
@@ -119,10 +119,10 @@ fn run_watched<O: Sink>(
 ) -> Result<Judgement, RunError>
     requires fit { IsFit unit }
     requires bound { IsBound bound }
-    ensures judged { IfOk result (UnitJudged (whole unit) lines (Task.Run bound zap) None
-        (sunk O.written O.faults out.old out.new) (halls hall.old hall.new its_kind its_wants seen)) }
-    ensures part { IfErr result (UnitCutOff (whole unit) lines (Task.Run bound zap) None
-        (sunk O.written O.faults out.old out.new) (halls hall.old hall.new its_kind its_wants seen)) }
+    ensures judged { IfOk result (UnitJudged (whole_unit unit) lines (Task.Run bound zap) None
+        (sink_change O.written O.faults out.old out.new) (halls hall.old hall.new its_kind its_wants seen)) }
+    ensures part { IfErr result (UnitCutOff (whole_unit unit) lines (Task.Run bound zap) None
+        (sink_change O.written O.faults out.old out.new) (halls hall.old hall.new its_kind its_wants seen)) }
     ensures cause { HasFault result (O.faults out.old) (O.faults out.new) }
 {
     match run_unit(alloc, unit, lines, bound, zap, None, out, hall) {
@@ -147,10 +147,10 @@ fn run_settled<O: Sink>(
 ) -> Result<Judgement, RunError>
     requires fit { IsFit unit }
     requires bound { IsBound bound }
-    ensures judged { (hall : Halls) → hall.new ≡ hall.old → IfOk result (UnitJudged (whole unit) lines (Task.Settle bound zap)
-        (highs sides.entry (λ x. x.now)) (sunk O.written O.faults out.old out.new) hall) }
-    ensures part { (hall : Halls) → hall.new ≡ hall.old → IfErr result (UnitCutOff (whole unit) lines (Task.Settle bound zap)
-        (highs sides.entry (λ x. x.now)) (sunk O.written O.faults out.old out.new) hall) }
+    ensures judged { (hall : Halls) → hall.new ≡ hall.old → IfOk result (UnitJudged (whole_unit unit) lines (Task.Settle bound zap)
+        (highs sides.entry (λ x. x.now)) (sink_change O.written O.faults out.old out.new) hall) }
+    ensures part { (hall : Halls) → hall.new ≡ hall.old → IfErr result (UnitCutOff (whole_unit unit) lines (Task.Settle bound zap)
+        (highs sides.entry (λ x. x.now)) (sink_change O.written O.faults out.old out.new) hall) }
     ensures cause { HasFault result (O.faults out.old) (O.faults out.new) }
 {
     let mut nobody = match Hall::new(alloc, Vec::new(alloc)) {

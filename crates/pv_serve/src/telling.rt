@@ -1,6 +1,6 @@
 //! Writing a report, and the statuses that no verdict has.
 ghost use Rattle.std.specs.Prelude.{◌≢◌};
-ghost use Rattle.pv_serve.specs.Outside.{sunk};
+ghost use Rattle.pv_serve.specs.Outside.{sink_change};
 ghost use Rattle.pv_serve.specs.Replying.{IsHanded, reply_view};
 
 use pv_script::{Sink, write_all};
@@ -28,7 +28,7 @@ pub struct Reply {
 /// the text was written.
 pub fn tell<R: Sink>(report: &mut R, text: &[u8], status: u8) -> u8
     requires { status ≢ 12 }
-    ensures { IsHanded (sunk R.written R.faults report.old report.new) result (record { status = status; text = text.now }) }
+    ensures { IsHanded (sink_change R.written R.faults report.old report.new) result (record { status = status; text = text.now }) }
 {
     match write_all(report, text) {
         Ok(()) => status,
@@ -39,7 +39,7 @@ pub fn tell<R: Sink>(report: &mut R, text: &[u8], status: u8) -> u8
 /// Writes a reply, as [`tell`] does, and answers its status.
 pub fn tell_reply<R: Sink>(report: &mut R, reply: &Reply) -> u8
     requires { reply.now.status ≢ 12 }
-    ensures { IsHanded (sunk R.written R.faults report.old report.new) result (reply_view reply.now) }
+    ensures { IsHanded (sink_change R.written R.faults report.old report.new) result (reply_view reply.now) }
 {
     tell(report, reply.text.as_slice(), reply.status)
 }

@@ -114,7 +114,7 @@ struct Options<'a> {
 
 /// The number of the generated source that is to be run, where the words are `gen N`.
 pub fn generated(words: &[String]) -> Option<u32>
-    ensures value { result ≡ specified.generated (specified.texts words.now) }
+    ensures value { result ≡ specified.generator_count (specified.texts words.now) }
     ensures range { IfSome result (λ n. (0 < n) × (n ≤ 8192)) }
 {
     match words {
@@ -160,7 +160,7 @@ pub fn file_job(words: &[String]) -> Option<Asked<'_>>
 
 // What a mode asks of a file, with these words behind it.
 fn asked_by<'a>(mode: &str, file: &'a str, rest: &'a [String]) -> Option<Asked<'a>>
-    ensures words { IsAsked result (specified.asked mode.now file.now (specified.texts rest.now)) }
+    ensures words { IsAsked result (specified.file_job_for mode.now file.now (specified.texts rest.now)) }
     ensures turns { IfSome result (λ j. IsTask j.task) }
 {
     match mode {
@@ -225,7 +225,7 @@ fn no_options<'a>() -> Options<'a>
 // What describes a file has no options.
 fn described<'a>(task: Task, file: &'a str, rest: &[String]) -> Option<Asked<'a>>
     requires { IsTask task }
-    ensures words { IsAsked result (specified.described task file.now (specified.texts rest.now)) }
+    ensures words { IsAsked result (specified.description_job task file.now (specified.texts rest.now)) }
     ensures turns { IfSome result (λ j. IsTask j.task) }
 {
     match rest {

@@ -7,9 +7,9 @@ use Rattle.pv_prov.specs.declared.names.Prov.{Prov}
 use Rattle.pv_prov.specs.declared.names.Prov.TheVariants.{Empty, Inst, Pair}
 use Rattle.pv_shadow.specs.declared.byte.Byte.{Byte}
 use Rattle.pv_shadow.specs.declared.packed.Packed.{Packed}
-use Rattle.pv_shadow.specs.Packed.{unpacked, number_if, pair_if, absent, digit_at, name_in, head_of, eight_head, number_head, cell_byte, number_byte, cell_or, number_or, first_of, four_of, loose_at, seen_at, seen_from, seen, IsParted, IsLoosened, IsByteOf, IsCell, IsNameless, IsNumber}
+use Rattle.pv_shadow.specs.Packed.{byte_packed, number_if, pair_if, absent, digit_at, name_in, head_of, eight_head, number_head, cell_byte, number_byte, cell_or, number_or, first_of, four_of, loose_at, seen_at, seen_from, page_bytes, IsParted, IsLoosened, IsByteOf, IsCell, IsNameless, IsNumber}
 use Rattle.pv_shadow.specs.Pages.{slot_at, with_slots}
-use Rattle.pv_shadow.specs.Whole.{little_endian, mark_at, plain, pointed}
+use Rattle.pv_shadow.specs.Whole.{little_endian, mark_at, number_bytes, pointer_bytes}
 use Rattle.pv_shadow.proofs.Ranges.{IsOutside, place_of}
 use Rattle.pv_shadow.proofs.Pages.{same_or_not, with_slots_in, with_slots_out, length_with, past_the_end}
 
@@ -22,21 +22,21 @@ at_from zero i xs j h = absurd (omega arith)
 at_from (suc n) i xs zero h = let e : i ≡ i + 0 = omega arith in ap (seen_at xs) e
 at_from (suc n) i xs (suc j) h = let e : (i + 1) + j ≡ i + suc j = omega arith in at_from n (i + 1) xs j (omega arith) ∙ ap (seen_at xs) e
 
-pub seen_length : (xs : List Packed) → length (seen xs) ≡ 256
-unfolding seen
+pub seen_length : (xs : List Packed) → length (page_bytes xs) ≡ 256
+unfolding page_bytes
 seen_length xs = length_from 256 0 xs
 
-pub seen_slot : (xs : List Packed) (i : ℕ) → i < 256 → slot_at (seen xs) i ≡ seen_at xs i
-unfolding seen
+pub seen_slot : (xs : List Packed) (i : ℕ) → i < 256 → slot_at (page_bytes xs) i ≡ seen_at xs i
+unfolding page_bytes
 seen_slot xs i h = let e : 0 + i ≡ i = omega arith in at_from 256 0 xs i h ∙ ap (seen_at xs) e
 
-seen_is : (xs : List Packed) (os : List (Option Byte)) → length os ≡ 256 → ((i : ℕ) → i < 256 → seen_at xs i ≡ slot_at os i) → seen xs ≡ os
+seen_is : (xs : List Packed) (os : List (Option Byte)) → length os ≡ 256 → ((i : ℕ) → i < 256 → seen_at xs i ≡ slot_at os i) → page_bytes xs ≡ os
 seen_is xs os l f =
-    let w : length (seen xs) ≡ 256 = seen_length xs in
-    ext_get_or None (seen xs) os (w ∙ sym l) (λ i h. let b : i < 256 = omega (arith, w) in seen_slot xs i b ∙ f i b)
+    let w : length (page_bytes xs) ≡ 256 = seen_length xs in
+    ext_get_or None (page_bytes xs) os (w ∙ sym l) (λ i h. let b : i < 256 = omega (arith, w) in seen_slot xs i b ∙ f i b)
 
-pub seen_alike : (xs ys : List Packed) → ((i : ℕ) → i < 256 → seen_at xs i ≡ seen_at ys i) → seen xs ≡ seen ys
-seen_alike xs ys f = seen_is xs (seen ys) (seen_length ys) (λ i h. f i h ∙ sym (seen_slot ys i h))
+pub seen_alike : (xs ys : List Packed) → ((i : ℕ) → i < 256 → seen_at xs i ≡ seen_at ys i) → page_bytes xs ≡ page_bytes ys
+seen_alike xs ys f = seen_is xs (page_bytes ys) (seen_length ys) (λ i h. f i h ∙ sym (seen_slot ys i h))
 
 is_below : (m k : ℕ) → k < m → leb m k ≡ false
 is_below m k h = grind (arith, nat_tests)
@@ -50,11 +50,11 @@ at_loose xs i h = ap (λ b. cond b (Some (cell_byte (get_or xs (first_of i) abse
 pub at_cell : (xs : List Packed) (i : ℕ) → 64 ≤ (get_or xs (first_of i) absent).kind → seen_at xs i ≡ Some (cell_byte (get_or xs (first_of i) absent) (get_or xs (first_of i + 1) absent).name (i % 8))
 at_cell xs i h = ap (λ b. cond b (Some (cell_byte (get_or xs (first_of i) absent) (get_or xs (first_of i + 1) absent).name (i % 8))) (loose_at xs i)) (is_above 64 (get_or xs (first_of i) absent).kind h)
 
-pub loose_single : (xs : List Packed) (i : ℕ) → (get_or xs (four_of i) absent).kind < 48 → loose_at xs i ≡ unpacked (get_or xs i absent)
-loose_single xs i h = ap (λ b. cond b (Some (number_byte (get_or xs (four_of i) absent) (i % 4))) (unpacked (get_or xs i absent))) (is_below 48 (get_or xs (four_of i) absent).kind h)
+pub loose_single : (xs : List Packed) (i : ℕ) → (get_or xs (four_of i) absent).kind < 48 → loose_at xs i ≡ byte_packed (get_or xs i absent)
+loose_single xs i h = ap (λ b. cond b (Some (number_byte (get_or xs (four_of i) absent) (i % 4))) (byte_packed (get_or xs i absent))) (is_below 48 (get_or xs (four_of i) absent).kind h)
 
 pub loose_number : (xs : List Packed) (i : ℕ) → 48 ≤ (get_or xs (four_of i) absent).kind → loose_at xs i ≡ Some (number_byte (get_or xs (four_of i) absent) (i % 4))
-loose_number xs i h = ap (λ b. cond b (Some (number_byte (get_or xs (four_of i) absent) (i % 4))) (unpacked (get_or xs i absent))) (is_above 48 (get_or xs (four_of i) absent).kind h)
+loose_number xs i h = ap (λ b. cond b (Some (number_byte (get_or xs (four_of i) absent) (i % 4))) (byte_packed (get_or xs i absent))) (is_above 48 (get_or xs (four_of i) absent).kind h)
 
 -- byte k of the pointer or the number whose cell begins at a place
 pub cell_at : (xs : List Packed) (g k : ℕ) → g % 8 ≡ 0 → k < 8 → 64 ≤ (get_or xs g absent).kind → seen_at xs (g + k) ≡ Some (cell_byte (get_or xs g absent) (get_or xs (g + 1) absent).name k)
@@ -79,7 +79,7 @@ number_at xs f k first h head c =
 not_zero : (k : ℕ) → 0 < k → (k == 0) ≡ false
 not_zero k h = grind (arith, nat_tests)
 
-pub nameless_is : (x : Packed) → x.kind / 16 ≡ 0 → x.kind / 2 % 2 ≡ 1 → IsSomeAnd (unpacked x) (IsNameless x.value)
+pub nameless_is : (x : Packed) → x.kind / 16 ≡ 0 → x.kind / 2 % 2 ≡ 1 → IsSomeAnd (byte_packed x) (IsNameless x.value)
 nameless_is x named valued =
     let some : 0 < x.kind = omega (arith, valued) in
     let is : Byte = record { value = number_if (x.kind / 2 % 2) x.value; prov = name_in (x.kind / 16) x.name; index = number_if (x.kind / 4 % 2) x.index; mark = pair_if (x.kind / 8 % 2) x.mark x.place } in
@@ -92,11 +92,11 @@ unset zero i = refl
 unset (suc n) zero = refl
 unset (suc n) (suc i) = unset n i
 
-pub none_seen : seen (replicate 256 absent) ≡ replicate 256 None
+pub none_seen : page_bytes (replicate 256 absent) ≡ replicate 256 None
 none_seen = seen_is (replicate 256 absent) (replicate 256 None) refl (λ i h.
     let k : (get_or (replicate 256 absent) (first_of i) absent).kind ≡ 0 = ap (λ x. x.kind) (unset 256 (first_of i)) in
     let f : (get_or (replicate 256 absent) (four_of i) absent).kind ≡ 0 = ap (λ x. x.kind) (unset 256 (four_of i)) in
-    at_loose (replicate 256 absent) i (omega (arith, k)) ∙ loose_single (replicate 256 absent) i (omega (arith, f)) ∙ ap unpacked (unset 256 i) ∙ sym (no_slot 256 i))
+    at_loose (replicate 256 absent) i (omega (arith, k)) ∙ loose_single (replicate 256 absent) i (omega (arith, f)) ∙ ap byte_packed (unset 256 i) ∙ sym (no_slot 256 i))
   where
     no_slot : (n i : ℕ) → slot_at (replicate n None) i ≡ None
     no_slot zero i = refl
@@ -104,7 +104,7 @@ none_seen = seen_is (replicate 256 absent) (replicate 256 None) refl (λ i h.
     no_slot (suc n) (suc i) = no_slot n i
 
 -- where nothing is kept, no byte is seen
-no_byte : (x : Packed) → x.kind ≡ 0 → unpacked x ≡ None
+no_byte : (x : Packed) → x.kind ≡ 0 → byte_packed x ≡ None
 no_byte x e = ap (λ k. cond (k == 0) None (Some (record {
   value = number_if (x.kind / 2 % 2) x.value;
   prov = name_in (x.kind / 16) x.name;
@@ -112,13 +112,13 @@ no_byte x e = ap (λ k. cond (k == 0) None (Some (record {
   mark = pair_if (x.kind / 8 % 2) x.mark x.place;
 }))) e
 
-pub none_kept : (xs : List Packed) → ((j : ℕ) → j < 256 → (get_or xs j absent).kind ≡ 0) → (j : ℕ) → slot_at (seen xs) j ≡ None
+pub none_kept : (xs : List Packed) → ((j : ℕ) → j < 256 → (get_or xs j absent).kind ≡ 0) → (j : ℕ) → slot_at (page_bytes xs) j ≡ None
 none_kept xs none j = ⊎_elim
     (λ h.
     let k : (get_or xs (first_of j) absent).kind ≡ 0 = none (first_of j) (omega arith) in
     let f : (get_or xs (four_of j) absent).kind ≡ 0 = none (four_of j) (omega arith) in
     seen_slot xs j h ∙ at_loose xs j (omega (arith, k)) ∙ loose_single xs j (omega (arith, f)) ∙ no_byte (get_or xs j absent) (none j h))
-    (λ h. past_the_end (seen xs) j (omega (arith, seen_length xs)))
+    (λ h. past_the_end (page_bytes xs) j (omega (arith, seen_length xs)))
     (cases_lt j 256)
 
 -- the same head of a group, the same number behind it, and the same byte where the group is no pointer's cell
@@ -197,7 +197,7 @@ module _ (xs ys : List Packed) (i n : ℕ) (front : IsParted xs i) (back : IsPar
       back.1
 
   -- a place of the range has its own byte
-  inside : (q : ℕ) → i ≤ q → q < i + n → seen_at ys q ≡ unpacked (get_or ys q absent)
+  inside : (q : ℕ) → i ≤ q → q < i + n → seen_at ys q ≡ byte_packed (get_or ys q absent)
   inside q l h =
       let head : (get_or ys (first_of q) absent).kind < 64 = ⊎_elim
       (λ below. subst (λ (y : Packed). y.kind < 64) (sym (others (first_of q) (inl below))) (front_head q below l))
@@ -217,7 +217,7 @@ module _ (xs ys : List Packed) (i n : ℕ) (front : IsParted xs i) (back : IsPar
   loose_out q o = ⊎_elim
       (λ below. two xs ys q (others (four_of q) (inl below)) (others q o))
       (λ from. ⊎_elim
-      (λ before. loose_single ys q (single_in (four_of q) from before) ∙ ap unpacked (others q o)
+      (λ before. loose_single ys q (single_in (four_of q) from before) ∙ ap byte_packed (others q o)
       ∙ sym (loose_single xs q (back_single q before (behind q (four_of q) o (omega arith) from))))
       (λ above. two xs ys q (others (four_of q) (inr above)) (others q o))
       (cases_lt (four_of q) (i + n)))
@@ -253,21 +253,21 @@ module _ (xs ys : List Packed) (i n : ℕ) (front : IsParted xs i) (back : IsPar
       (cases_lt (first_of q) (i + n)))
       (cases_lt (first_of q) i)
 
-  replaced_at : (os : List (Option Byte)) → i + n ≤ 256 → length os ≡ n → ((k : ℕ) → k < n → unpacked (get_or ys (i + k) absent) ≡ slot_at os k) → (q : ℕ) → q < 256 → seen_at ys q ≡ slot_at (with_slots (seen xs) i os) q
+  replaced_at : (os : List (Option Byte)) → i + n ≤ 256 → length os ≡ n → ((k : ℕ) → k < n → byte_packed (get_or ys (i + k) absent) ≡ slot_at os k) → (q : ℕ) → q < 256 → seen_at ys q ≡ slot_at (with_slots (page_bytes xs) i os) q
   replaced_at os within long bytes q h = ⊎_elim
       (λ w.
-      let fits : i + length os ≤ length (seen xs) = omega (arith, long, within, seen_length xs) in
-      inside q (omega (arith, w.2)) (omega (arith, w.1, w.2)) ∙ ap (λ j. unpacked (get_or ys j absent)) w.2 ∙ bytes w.0 w.1
-      ∙ sym (ap (slot_at (with_slots (seen xs) i os)) w.2 ∙ with_slots_in (seen xs) i os w.0 fits (omega (arith, long, w.1))))
-      (λ o. outside q o ∙ sym (with_slots_out (seen xs) i os q (subst (λ m. IsOutside i m q) (sym long) o) ∙ seen_slot xs q h))
+      let fits : i + length os ≤ length (page_bytes xs) = omega (arith, long, within, seen_length xs) in
+      inside q (omega (arith, w.2)) (omega (arith, w.1, w.2)) ∙ ap (λ j. byte_packed (get_or ys j absent)) w.2 ∙ bytes w.0 w.1
+      ∙ sym (ap (slot_at (with_slots (page_bytes xs) i os)) w.2 ∙ with_slots_in (page_bytes xs) i os w.0 fits (omega (arith, long, w.1))))
+      (λ o. outside q o ∙ sym (with_slots_out (page_bytes xs) i os q (subst (λ m. IsOutside i m q) (sym long) o) ∙ seen_slot xs q h))
       (place_of i n q)
 
-  pub replaced : (os : List (Option Byte)) → i + n ≤ 256 → length os ≡ n → ((k : ℕ) → k < n → unpacked (get_or ys (i + k) absent) ≡ slot_at os k) → seen ys ≡ with_slots (seen xs) i os
-  replaced os within long bytes = seen_is ys (with_slots (seen xs) i os) (length_with (seen xs) i os ∙ seen_length xs) (replaced_at os within long bytes)
+  pub replaced : (os : List (Option Byte)) → i + n ≤ 256 → length os ≡ n → ((k : ℕ) → k < n → byte_packed (get_or ys (i + k) absent) ≡ slot_at os k) → page_bytes ys ≡ with_slots (page_bytes xs) i os
+  replaced os within long bytes = seen_is ys (with_slots (page_bytes xs) i os) (length_with (page_bytes xs) i os ∙ seen_length xs) (replaced_at os within long bytes)
 
-  pub unchanged : ((k : ℕ) → k < n → unpacked (get_or ys (i + k) absent) ≡ seen_at xs (i + k)) → seen ys ≡ seen xs
+  pub unchanged : ((k : ℕ) → k < n → byte_packed (get_or ys (i + k) absent) ≡ seen_at xs (i + k)) → page_bytes ys ≡ page_bytes xs
   unchanged bytes = seen_alike ys xs (λ q h. ⊎_elim
-      (λ w. inside q (omega (arith, w.2)) (omega (arith, w.1, w.2)) ∙ ap (λ j. unpacked (get_or ys j absent)) w.2 ∙ bytes w.0 w.1 ∙ ap (seen_at xs) (sym w.2))
+      (λ w. inside q (omega (arith, w.2)) (omega (arith, w.1, w.2)) ∙ ap (λ j. byte_packed (get_or ys j absent)) w.2 ∙ bytes w.0 w.1 ∙ ap (seen_at xs) (sym w.2))
       (λ o. outside q o)
       (place_of i n q))
 
@@ -276,20 +276,20 @@ module _ (xs : List Packed) (i : ℕ) (x : Packed) (wide : length xs ≡ 256) (w
   put_there : (k : ℕ) → k < 1 → get_or (set xs i x) (i + k) absent ≡ x
   put_there k h = let e : i + k ≡ i = omega (arith, h) in ap (λ j. get_or (set xs i x) j absent) e ∙ get_or-set_same xs i x absent (omega (arith, wide, within))
 
-  one_of : (k : ℕ) → k < 1 → unpacked x ≡ slot_at (unpacked x ∷ []) k
+  one_of : (k : ℕ) → k < 1 → byte_packed x ≡ slot_at (byte_packed x ∷ []) k
   one_of zero h = refl
   one_of (suc k) h = absurd (omega arith)
 
-  pub put_seen : (get_or xs (first_of i) absent).kind < 64 → (get_or xs (four_of i) absent).kind < 48 → x.kind < 48 → seen (set xs i x) ≡ set (seen xs) i (unpacked x)
+  pub put_seen : (get_or xs (first_of i) absent).kind < 64 → (get_or xs (four_of i) absent).kind < 48 → x.kind < 48 → page_bytes (set xs i x) ≡ set (page_bytes xs) i (byte_packed x)
   put_seen head four single = replaced xs (set xs i x) i 1 (parted_here xs i head four) (parted_behind xs i head four)
       (λ k h. subst (λ (y : Packed). y.kind < 48) (sym (put_there k h)) single)
       (λ q o. get_or-set_other xs i q x absent (⊎_elim (λ l. λ e. omega (arith, l, e)) (λ r. λ e. omega (arith, r, e)) o))
-      (unpacked x ∷ []) (omega (arith, within)) refl (λ k h. ap unpacked (put_there k h) ∙ one_of k h)
+      (byte_packed x ∷ []) (omega (arith, within)) refl (λ k h. ap byte_packed (put_there k h) ∙ one_of k h)
 
 -- a pointer's cell becomes single bytes
 pub loosened : (xs ys : List Packed) (g : ℕ) → g % 8 ≡ 0 → 64 ≤ (get_or xs g absent).kind
-    → ((k : ℕ) → k < 8 → unpacked (get_or ys (g + k) absent) ≡ Some (cell_byte (get_or xs g absent) (get_or xs (g + 1) absent).name k))
-    → ((k : ℕ) → k < 8 → (get_or ys (g + k) absent).kind < 48) → ((q : ℕ) → IsOutside g 8 q → get_or ys q absent ≡ get_or xs q absent) → seen ys ≡ seen xs
+    → ((k : ℕ) → k < 8 → byte_packed (get_or ys (g + k) absent) ≡ Some (cell_byte (get_or xs g absent) (get_or xs (g + 1) absent).name k))
+    → ((k : ℕ) → k < 8 → (get_or ys (g + k) absent).kind < 48) → ((q : ℕ) → IsOutside g 8 q → get_or ys q absent ≡ get_or xs q absent) → page_bytes ys ≡ page_bytes xs
 loosened xs ys g first cell bytes single others =
     let front : IsParted xs g = (inl first, inl (omega (arith, first))) in
     let back : IsParted xs (g + 8) = (inl (omega (arith, first)), inl (omega (arith, first))) in
@@ -297,8 +297,8 @@ loosened xs ys g first cell bytes single others =
 
 -- a number's cell becomes single bytes
 pub loosened_number : (xs ys : List Packed) (f : ℕ) → f % 4 ≡ 0 → (get_or xs (first_of f) absent).kind < 64 → 48 ≤ (get_or xs f absent).kind
-    → ((k : ℕ) → k < 4 → unpacked (get_or ys (f + k) absent) ≡ Some (number_byte (get_or xs f absent) k))
-    → ((k : ℕ) → k < 4 → (get_or ys (f + k) absent).kind < 48) → ((q : ℕ) → IsOutside f 4 q → get_or ys q absent ≡ get_or xs q absent) → seen ys ≡ seen xs
+    → ((k : ℕ) → k < 4 → byte_packed (get_or ys (f + k) absent) ≡ Some (number_byte (get_or xs f absent) k))
+    → ((k : ℕ) → k < 4 → (get_or ys (f + k) absent).kind < 48) → ((q : ℕ) → IsOutside f 4 q → get_or ys q absent ≡ get_or xs q absent) → page_bytes ys ≡ page_bytes xs
 loosened_number xs ys f first head cell bytes single others =
     let front : IsParted xs f = (inr head, inl first) in
     let back : IsParted xs (f + 4) = (
@@ -318,14 +318,14 @@ loosened_range xs ys i n single others = λ q. ⊎_elim
     (place_of i n q)
 
 -- the bytes of a number, and those of its cell
-plain_at : (mark : Option ℕ) (n a j k : ℕ) → k < n → slot_at (map Some (plain mark j (little_endian n a))) k ≡ Some (record { value = Some (digit_at a k); prov = Empty; index = None; mark = mark_at mark (j + k) })
+plain_at : (mark : Option ℕ) (n a j k : ℕ) → k < n → slot_at (map Some (number_bytes mark j (little_endian n a))) k ≡ Some (record { value = Some (digit_at a k); prov = Empty; index = None; mark = mark_at mark (j + k) })
 plain_at mark zero a j k h = absurd (omega arith)
 plain_at mark (suc n) a j zero h = let e : j ≡ j + 0 = omega arith in ap (λ i. Some (record { value = Some (a % 256); prov = Empty; index = None; mark = mark_at mark i })) e
 plain_at mark (suc n) a j (suc k) h =
     let e : (j + 1) + k ≡ j + suc k = omega arith in
     plain_at mark n (a / 256) (j + 1) k (omega arith) ∙ ap (λ i. Some (record { value = Some (digit_at (a / 256) k); prov = Empty; index = None; mark = mark_at mark i })) e
 
-plain_first : (mark : Option ℕ) (n a k : ℕ) → k < n → slot_at (map Some (plain mark 0 (little_endian n a))) k ≡ Some (record { value = Some (digit_at a k); prov = Empty; index = None; mark = mark_at mark k })
+plain_first : (mark : Option ℕ) (n a k : ℕ) → k < n → slot_at (map Some (number_bytes mark 0 (little_endian n a))) k ≡ Some (record { value = Some (digit_at a k); prov = Empty; index = None; mark = mark_at mark k })
 plain_first mark n a k h =
     let e : 0 + k ≡ k = omega arith in
     plain_at mark n a 0 k h ∙ ap (λ i. Some (record { value = Some (digit_at a k); prov = Empty; index = None; mark = mark_at mark i })) e
@@ -344,7 +344,7 @@ module _ (xs : List Packed) (f a : ℕ) (mark : Option ℕ) (wide : length xs �
   zs = set xs f (number_head a mark)
 
   abbrev four : List (Option Byte)
-  four = map Some (plain mark 0 (little_endian 4 a))
+  four = map Some (number_bytes mark 0 (little_endian 4 a))
 
   number_there : get_or zs f absent ≡ number_head a mark
   number_there = get_or-set_same xs f (number_head a mark) absent (omega (arith, wide, within))
@@ -361,7 +361,7 @@ module _ (xs : List Packed) (f a : ℕ) (mark : Option ℕ) (wide : length xs �
       (λ n. subst (λ (y : Packed). y.kind < 64) (sym (not_there (first_of q) n)) (head_before q e))
       (same_or_not (first_of q) f)
 
-  in_four : (q : ℕ) → q < 256 → four_of q ≡ f → seen_at zs q ≡ slot_at (with_slots (seen xs) f four) q
+  in_four : (q : ℕ) → q < 256 → four_of q ≡ f → seen_at zs q ≡ slot_at (with_slots (page_bytes xs) f four) q
   in_four q h e =
       let k : q ≡ f + q % 4 = omega (arith, e) in
       let m : q % 4 < 4 = omega arith in
@@ -371,9 +371,9 @@ module _ (xs : List Packed) (f a : ℕ) (mark : Option ℕ) (wide : length xs �
       ∙ ap (λ y. Some (number_byte y (q % 4))) (ap (λ j. get_or zs j absent) e ∙ number_there)
       ∙ ap Some (number_is mark a (q % 4))
       ∙ sym (plain_first mark 4 a (q % 4) m)
-      ∙ sym (ap (slot_at (with_slots (seen xs) f four)) k ∙ with_slots_in (seen xs) f four (q % 4) (omega (arith, seen_length xs, first, within)) m)
+      ∙ sym (ap (slot_at (with_slots (page_bytes xs) f four)) k ∙ with_slots_in (page_bytes xs) f four (q % 4) (omega (arith, seen_length xs, first, within)) m)
 
-  out_of_four : (q : ℕ) → q < 256 → four_of q ≢ f → seen_at zs q ≡ slot_at (with_slots (seen xs) f four) q
+  out_of_four : (q : ℕ) → q < 256 → four_of q ≢ f → seen_at zs q ≡ slot_at (with_slots (page_bytes xs) f four) q
   out_of_four q h d =
       let same : loose_at zs q ≡ loose_at xs q = two xs zs q (not_there (four_of q) d) (not_there q (λ e. d (omega (arith, e, first)))) in
       let out : IsOutside f 4 q = ⊎_elim (λ l. inl (omega (arith, l, first))) (λ r. inr (⊎_elim (λ l. absurd (d (omega (arith, l, r, first)))) (λ s. s) (cases_lt q (f + 4)))) (cases_lt (four_of q) f) in
@@ -381,10 +381,10 @@ module _ (xs : List Packed) (f a : ℕ) (mark : Option ℕ) (wide : length xs �
       (λ e. at_loose zs q (head_after q e) ∙ same ∙ sym (at_loose xs q (head_before q e)))
       (λ n. three xs zs q (not_there (first_of q) (λ e. n (omega (arith, e)))) (not_there (first_of q + 1) (λ e. omega (arith, e, first))) same)
       (same_or_not (first_of q) (first_of f))
-      ∙ sym (with_slots_out (seen xs) f four q out ∙ seen_slot xs q h)
+      ∙ sym (with_slots_out (page_bytes xs) f four q out ∙ seen_slot xs q h)
 
-  pub numbered : seen zs ≡ with_slots (seen xs) f four
-  numbered = seen_is zs (with_slots (seen xs) f four) (length_with (seen xs) f four ∙ seen_length xs) (λ q h. ⊎_elim (λ e. in_four q h e) (λ d. out_of_four q h d) (same_or_not (four_of q) f))
+  pub numbered : page_bytes zs ≡ with_slots (page_bytes xs) f four
+  numbered = seen_is zs (with_slots (page_bytes xs) f four) (length_with (page_bytes xs) f four ∙ seen_length xs) (λ q h. ⊎_elim (λ e. in_four q h e) (λ d. out_of_four q h d) (same_or_not (four_of q) f))
 
 -- what a number's cell is seen as
 low_digit : (a k : ℕ) → k < 4 → digit_at a k ≡ digit_at (a % 4294967296) k
@@ -398,14 +398,14 @@ pub number_seen : (os : List (Option Byte)) (i : ℕ) (h : Packed) → ((k : ℕ
 number_seen os i h bytes = λ k l. subst (λ o. IsSomeAnd o (IsNameless (digit_at (h.name % 4294967296) k))) (sym (bytes k l)) (ap Some (low_digit h.name k l), refl)
 
 -- the bytes of a whole pointer, and those of its cell
-pointed_at : (mark : Option ℕ) (p : Prov) (n a j k : ℕ) → k < n → slot_at (map Some (pointed mark p j (little_endian n a))) k ≡ Some (record { value = Some (digit_at a k); prov = p; index = Some (j + k); mark = mark_at mark (j + k) })
+pointed_at : (mark : Option ℕ) (p : Prov) (n a j k : ℕ) → k < n → slot_at (map Some (pointer_bytes mark p j (little_endian n a))) k ≡ Some (record { value = Some (digit_at a k); prov = p; index = Some (j + k); mark = mark_at mark (j + k) })
 pointed_at mark p zero a j k h = absurd (omega arith)
 pointed_at mark p (suc n) a j zero h = let e : j ≡ j + 0 = omega arith in ap (λ i. Some (record { value = Some (a % 256); prov = p; index = Some i; mark = mark_at mark i })) e
 pointed_at mark p (suc n) a j (suc k) h =
     let e : (j + 1) + k ≡ j + suc k = omega arith in
     pointed_at mark p n (a / 256) (j + 1) k (omega arith) ∙ ap (λ i. Some (record { value = Some (digit_at (a / 256) k); prov = p; index = Some i; mark = mark_at mark i })) e
 
-pointed_first : (mark : Option ℕ) (p : Prov) (n a k : ℕ) → k < n → slot_at (map Some (pointed mark p 0 (little_endian n a))) k ≡ Some (record { value = Some (digit_at a k); prov = p; index = Some k; mark = mark_at mark k })
+pointed_first : (mark : Option ℕ) (p : Prov) (n a k : ℕ) → k < n → slot_at (map Some (pointer_bytes mark p 0 (little_endian n a))) k ≡ Some (record { value = Some (digit_at a k); prov = p; index = Some k; mark = mark_at mark k })
 pointed_first mark p n a k h =
     let e : 0 + k ≡ k = omega arith in
     pointed_at mark p n a 0 k h ∙ ap (λ i. Some (record { value = Some (digit_at a k); prov = p; index = Some i; mark = mark_at mark i })) e
@@ -443,7 +443,7 @@ module _ (xs : List Packed) (g : ℕ) (head next : Packed) (os : List (Option By
   elsewhere : (q : ℕ) → q ≢ g → q ≢ g + 1 → get_or ys q absent ≡ get_or xs q absent
   elsewhere q n m = get_or-set_other (set xs g head) (g + 1) q next absent m ∙ get_or-set_other xs g q head absent n
 
-  celled_at : (q : ℕ) → q < 256 → seen_at ys q ≡ slot_at (with_slots (seen xs) g os) q
+  celled_at : (q : ℕ) → q < 256 → seen_at ys q ≡ slot_at (with_slots (page_bytes xs) g os) q
   celled_at q h = ⊎_elim
       (λ e.
       let k : q ≡ g + q % 8 = omega arith in
@@ -454,45 +454,45 @@ module _ (xs : List Packed) (g : ℕ) (head next : Packed) (os : List (Option By
       ∙ ap (λ j. Some (cell_byte head (get_or ys (j + 1) absent).name (q % 8))) e
       ∙ ap (λ y. Some (cell_byte head y.name (q % 8))) next_there
       ∙ bytes (q % 8) m
-      ∙ sym (ap (slot_at (with_slots (seen xs) g os)) k ∙ with_slots_in (seen xs) g os (q % 8) (omega (arith, seen_length xs, long, first, within)) (omega (arith, long, m))))
+      ∙ sym (ap (slot_at (with_slots (page_bytes xs) g os)) k ∙ with_slots_in (page_bytes xs) g os (q % 8) (omega (arith, seen_length xs, long, first, within)) (omega (arith, long, m))))
       (λ d. three xs ys q (elsewhere (first_of q) d (λ e. omega arith)) (elsewhere (first_of q + 1) (λ e. omega arith) (λ e. d (omega arith)))
       (two xs ys q (elsewhere (four_of q) (λ e. d (omega arith)) (λ e. omega arith)) (elsewhere q (λ e. d (omega arith)) (λ e. d (omega arith))))
-      ∙ sym (with_slots_out (seen xs) g os q (subst (λ m. IsOutside g m q) (sym long) (⊎_elim (λ l. inl (omega arith)) (λ r. inr (omega arith)) (cases_lt (first_of q) g))) ∙ seen_slot xs q h))
+      ∙ sym (with_slots_out (page_bytes xs) g os q (subst (λ m. IsOutside g m q) (sym long) (⊎_elim (λ l. inl (omega arith)) (λ r. inr (omega arith)) (cases_lt (first_of q) g))) ∙ seen_slot xs q h))
       (same_or_not (first_of q) g)
 
-  cell_put : seen ys ≡ with_slots (seen xs) g os
-  cell_put = seen_is ys (with_slots (seen xs) g os) (length_with (seen xs) g os ∙ seen_length xs) celled_at
+  cell_put : page_bytes ys ≡ with_slots (page_bytes xs) g os
+  cell_put = seen_is ys (with_slots (page_bytes xs) g os) (length_with (page_bytes xs) g os ∙ seen_length xs) celled_at
 
 -- of a pointer, and of a number
 pub celled : (xs : List Packed) (g : ℕ) (p : Prov) (mark : Option ℕ) (next : Packed) → length xs ≡ 256 → g % 8 ≡ 0 → g < 256
-    → seen (set (set xs g (head_of p mark)) (g + 1) next) ≡ with_slots (seen xs) g (map Some (pointed mark p 0 (little_endian 8 next.name)))
-celled xs g p mark next wide first within = cell_put xs g (head_of p mark) next (map Some (pointed mark p 0 (little_endian 8 next.name))) wide first within (head_high p mark) refl
+    → page_bytes (set (set xs g (head_of p mark)) (g + 1) next) ≡ with_slots (page_bytes xs) g (map Some (pointer_bytes mark p 0 (little_endian 8 next.name)))
+celled xs g p mark next wide first within = cell_put xs g (head_of p mark) next (map Some (pointer_bytes mark p 0 (little_endian 8 next.name))) wide first within (head_high p mark) refl
     (λ k h. ap Some (cell_is p mark next.name k) ∙ sym (pointed_first mark p 8 next.name k h))
 
 pub eighted : (xs : List Packed) (g : ℕ) (mark : Option ℕ) (next : Packed) → length xs ≡ 256 → g % 8 ≡ 0 → g < 256
-    → seen (set (set xs g (eight_head mark)) (g + 1) next) ≡ with_slots (seen xs) g (map Some (plain mark 0 (little_endian 8 next.name)))
-eighted xs g mark next wide first within = cell_put xs g (eight_head mark) next (map Some (plain mark 0 (little_endian 8 next.name))) wide first within (eight_high mark) refl
+    → page_bytes (set (set xs g (eight_head mark)) (g + 1) next) ≡ with_slots (page_bytes xs) g (map Some (number_bytes mark 0 (little_endian 8 next.name)))
+eighted xs g mark next wide first within = cell_put xs g (eight_head mark) next (map Some (number_bytes mark 0 (little_endian 8 next.name))) wide first within (eight_high mark) refl
     (λ k h. ap Some (eight_is mark next.name k) ∙ sym (plain_first mark 8 next.name k h))
 
 -- the marks of a cell
 pub marks_seen : (xs : List Packed) (g : ℕ) → g % 8 ≡ 0 → g < 256 → 64 ≤ (get_or xs g absent).kind
-    → (k : ℕ) → k < 8 → IsSomeAnd (slot_at (seen xs) (g + k)) (λ (b : Byte). b.mark ≡ pair_if (((get_or xs g absent).kind - 64) % 2) (get_or xs g absent).mark k)
+    → (k : ℕ) → k < 8 → IsSomeAnd (slot_at (page_bytes xs) (g + k)) (λ (b : Byte). b.mark ≡ pair_if (((get_or xs g absent).kind - 64) % 2) (get_or xs g absent).mark k)
 marks_seen xs g f w c = λ k h.
-    let s : slot_at (seen xs) (g + k) ≡ Some (cell_byte (get_or xs g absent) (get_or xs (g + 1) absent).name k) =
+    let s : slot_at (page_bytes xs) (g + k) ≡ Some (cell_byte (get_or xs g absent) (get_or xs (g + 1) absent).name k) =
     seen_slot xs (g + k) (omega arith) ∙ cell_at xs g k f h c in
     subst (λ o. IsSomeAnd o (λ (b : Byte). b.mark ≡ pair_if (((get_or xs g absent).kind - 64) % 2) (get_or xs g absent).mark k)) (sym s) refl
 
 -- what a cell is seen as
-pub cell_seen : (xs : List Packed) (g : ℕ) → g % 8 ≡ 0 → g < 256 → 64 ≤ (get_or xs g absent).kind → (get_or xs g absent).index ≡ 1 → IsCell (seen xs) g (get_or xs (g + 1) absent).name (name_in (((get_or xs g absent).kind - 64) / 2) (get_or xs g absent).name)
+pub cell_seen : (xs : List Packed) (g : ℕ) → g % 8 ≡ 0 → g < 256 → 64 ≤ (get_or xs g absent).kind → (get_or xs g absent).index ≡ 1 → IsCell (page_bytes xs) g (get_or xs (g + 1) absent).name (name_in (((get_or xs g absent).kind - 64) / 2) (get_or xs g absent).name)
 cell_seen xs g f w c e = λ k h.
-    let s : slot_at (seen xs) (g + k) ≡ Some (cell_byte (get_or xs g absent) (get_or xs (g + 1) absent).name k) =
+    let s : slot_at (page_bytes xs) (g + k) ≡ Some (cell_byte (get_or xs g absent) (get_or xs (g + 1) absent).name k) =
     seen_slot xs (g + k) (omega arith) ∙ cell_at xs g k f h c in
     subst (λ o. IsSomeAnd o (IsByteOf (get_or xs (g + 1) absent).name (name_in (((get_or xs g absent).kind - 64) / 2) (get_or xs g absent).name) k)) (sym s) (refl, refl, ap (λ d. number_if d k) e)
 
 -- the number that a cell without a name is seen as
-pub eight_seen : (xs : List Packed) (g : ℕ) → g % 8 ≡ 0 → g < 256 → 64 ≤ (get_or xs g absent).kind → (get_or xs g absent).kind ≤ 65 → IsNumber (seen xs) g 8 (get_or xs (g + 1) absent).name
+pub eight_seen : (xs : List Packed) (g : ℕ) → g % 8 ≡ 0 → g < 256 → 64 ≤ (get_or xs g absent).kind → (get_or xs g absent).kind ≤ 65 → IsNumber (page_bytes xs) g 8 (get_or xs (g + 1) absent).name
 eight_seen xs g f w c l = λ k h.
-    let s : slot_at (seen xs) (g + k) ≡ Some (cell_byte (get_or xs g absent) (get_or xs (g + 1) absent).name k) =
+    let s : slot_at (page_bytes xs) (g + k) ≡ Some (cell_byte (get_or xs g absent) (get_or xs (g + 1) absent).name k) =
     seen_slot xs (g + k) (omega arith) ∙ cell_at xs g k f h c in
     let nameless : ((get_or xs g absent).kind - 64) / 2 ≡ 0 = omega (arith, c, l) in
     subst (λ o. IsSomeAnd o (IsNameless (digit_at (get_or xs (g + 1) absent).name k))) (sym s) (refl, ap (λ d. name_in d (get_or xs g absent).name) nameless)
@@ -511,19 +511,19 @@ group_at xs ys g k first h same =
     let in_four : k % 4 ≡ (g + k) % 4 = omega (arith, first) in
     λ i. cell_or (head i) (next i).name (in_eight i) (number_or (four i) (in_four i) (here i))
 
-pub group_seen : (xs ys : List Packed) (g k : ℕ) → g % 8 ≡ 0 → g < 256 → k < 8 → ((j : ℕ) → j < 8 → get_or ys j absent ≡ get_or xs (g + j) absent) → seen_at ys k ≡ slot_at (seen xs) (g + k)
+pub group_seen : (xs ys : List Packed) (g k : ℕ) → g % 8 ≡ 0 → g < 256 → k < 8 → ((j : ℕ) → j < 8 → get_or ys j absent ≡ get_or xs (g + j) absent) → seen_at ys k ≡ slot_at (page_bytes xs) (g + k)
 group_seen xs ys g k first within h same = group_at xs ys g k first h same ∙ sym (seen_slot xs (g + k) (omega (arith, first, within, h)))
 
 -- they replace those of another place
 module _ (xs ys zs : List Packed) (g : ℕ) (first : g % 8 ≡ 0) (within : g < 256)
     (same : (j : ℕ) → j < 8 → get_or ys (g + j) absent ≡ get_or zs j absent)
     (others : (q : ℕ) → IsOutside g 8 q → get_or ys q absent ≡ get_or xs q absent) where
-  in_group : (q k : ℕ) → k < 8 → q ≡ g + k → seen_at ys q ≡ slot_at (with_slots (seen xs) g (seen_from 8 0 zs)) q
+  in_group : (q k : ℕ) → k < 8 → q ≡ g + k → seen_at ys q ≡ slot_at (with_slots (page_bytes xs) g (seen_from 8 0 zs)) q
   in_group q k h e =
       let z : 0 + k ≡ k = omega arith in
       ap (seen_at ys) e ∙ sym (group_at ys zs g k first h (λ j l. sym (same j l)))
       ∙ sym (at_from 8 0 zs k h ∙ ap (seen_at zs) z)
-      ∙ sym (ap (slot_at (with_slots (seen xs) g (seen_from 8 0 zs))) e ∙ with_slots_in (seen xs) g (seen_from 8 0 zs) k (omega (arith, length_from 8 0 zs, seen_length xs, first, within)) (omega (arith, length_from 8 0 zs, h)))
+      ∙ sym (ap (slot_at (with_slots (page_bytes xs) g (seen_from 8 0 zs))) e ∙ with_slots_in (page_bytes xs) g (seen_from 8 0 zs) k (omega (arith, length_from 8 0 zs, seen_length xs, first, within)) (omega (arith, length_from 8 0 zs, h)))
 
   apart_head : (q : ℕ) → IsOutside g 8 q → IsOutside g 8 (first_of q)
   apart_head q (inl l) = inl (omega (arith, l))
@@ -537,11 +537,11 @@ module _ (xs ys zs : List Packed) (g : ℕ) (first : g % 8 ≡ 0) (within : g < 
   apart_four q (inl l) = inl (omega (arith, l))
   apart_four q (inr r) = inr (omega (arith, r, first))
 
-  out_of_group : (q : ℕ) → q < 256 → IsOutside g 8 q → seen_at ys q ≡ slot_at (with_slots (seen xs) g (seen_from 8 0 zs)) q
+  out_of_group : (q : ℕ) → q < 256 → IsOutside g 8 q → seen_at ys q ≡ slot_at (with_slots (page_bytes xs) g (seen_from 8 0 zs)) q
   out_of_group q h o =
       three xs ys q (others (first_of q) (apart_head q o)) (others (first_of q + 1) (apart_next q o)) (two xs ys q (others (four_of q) (apart_four q o)) (others q o))
-      ∙ sym (with_slots_out (seen xs) g (seen_from 8 0 zs) q (subst (λ m. IsOutside g m q) (sym (length_from 8 0 zs)) o) ∙ seen_slot xs q h)
+      ∙ sym (with_slots_out (page_bytes xs) g (seen_from 8 0 zs) q (subst (λ m. IsOutside g m q) (sym (length_from 8 0 zs)) o) ∙ seen_slot xs q h)
 
-  pub group_laid : seen ys ≡ with_slots (seen xs) g (seen_from 8 0 zs)
-  group_laid = seen_is ys (with_slots (seen xs) g (seen_from 8 0 zs)) (length_with (seen xs) g (seen_from 8 0 zs) ∙ seen_length xs)
+  pub group_laid : page_bytes ys ≡ with_slots (page_bytes xs) g (seen_from 8 0 zs)
+  group_laid = seen_is ys (with_slots (page_bytes xs) g (seen_from 8 0 zs)) (length_with (page_bytes xs) g (seen_from 8 0 zs) ∙ seen_length xs)
       (λ q h. ⊎_elim (λ w. in_group q w.0 w.1 w.2) (λ o. out_of_group q h o) (place_of g 8 q))

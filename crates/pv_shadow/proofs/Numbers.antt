@@ -5,10 +5,10 @@ use Rattle.std.specs.FinMap.{insert}
 use Rattle.pv_prov.specs.declared.names.Prov.TheVariants.{Empty}
 use Rattle.pv_shadow.specs.declared.byte.Byte.{Byte}
 use Rattle.pv_shadow.specs.declared.packed.Packed.{Packed}
-use Rattle.pv_shadow.specs.Bytes.{Store, blank, written}
+use Rattle.pv_shadow.specs.Bytes.{Store, blank_byte, with_bytes_at}
 use Rattle.pv_shadow.specs.Packed.{digit_at, number_byte, pair_if, IsNameless}
 use Rattle.pv_shadow.specs.Pages.{slot_at, with_slots}
-use Rattle.pv_shadow.specs.Whole.{little_endian, mark_at, plain}
+use Rattle.pv_shadow.specs.Whole.{little_endian, mark_at, number_bytes}
 use Rattle.pv_shadow.specs.Readings.{has_mark, are_marked}
 
 -- one byte more in front
@@ -29,38 +29,38 @@ digits_more xs i k n v m some low first rest (suc j) within =
 abbrev pub byte_of : Option ℕ → ℕ → ℕ → Byte
 byte_of mark j r = record { value = Some (r % 256); prov = Empty; index = None; mark = mark_at mark j }
 
-next_digits : (mark : Option ℕ) (n k r : ℕ) → k < n → plain mark k (little_endian (n - k) r) ≡ byte_of mark k r ∷ plain mark (k + 1) (little_endian (n - (k + 1)) (r / 256))
-next_digits mark n k r h = let e : n - k ≡ suc (n - (k + 1)) = omega arith in ap (λ t. plain mark k (little_endian t r)) e
+next_digits : (mark : Option ℕ) (n k r : ℕ) → k < n → number_bytes mark k (little_endian (n - k) r) ≡ byte_of mark k r ∷ number_bytes mark (k + 1) (little_endian (n - (k + 1)) (r / 256))
+next_digits mark n k r h = let e : n - k ≡ suc (n - (k + 1)) = omega arith in ap (λ t. number_bytes mark k (little_endian t r)) e
 
 pub number_step : (xs : List (Option Byte)) (i n k r : ℕ) (mark : Option ℕ) → k < n
-    → with_slots (set xs (i + k) (Some (byte_of mark k r))) (i + (k + 1)) (map Some (plain mark (k + 1) (little_endian (n - (k + 1)) (r / 256)))) ≡ with_slots xs (i + k) (map Some (plain mark k (little_endian (n - k) r)))
+    → with_slots (set xs (i + k) (Some (byte_of mark k r))) (i + (k + 1)) (map Some (number_bytes mark (k + 1) (little_endian (n - (k + 1)) (r / 256)))) ≡ with_slots xs (i + k) (map Some (number_bytes mark k (little_endian (n - k) r)))
 number_step xs i n k r mark h =
     let f : (i + k) + 1 ≡ i + (k + 1) = omega arith in
     sym (ap (λ bs. with_slots xs (i + k) (map Some bs)) (next_digits mark n k r h)
-    ∙ ap (λ t. with_slots (set xs (i + k) (Some (byte_of mark k r))) t (map Some (plain mark (k + 1) (little_endian (n - (k + 1)) (r / 256))))) f)
+    ∙ ap (λ t. with_slots (set xs (i + k) (Some (byte_of mark k r))) t (map Some (number_bytes mark (k + 1) (little_endian (n - (k + 1)) (r / 256))))) f)
 
 pub written_step : (m : Store) (a n k r : ℕ) (mark : Option ℕ) → k < n
-    → written (insert m (a + k) (byte_of mark k r)) (a + (k + 1)) (plain mark (k + 1) (little_endian (n - (k + 1)) (r / 256))) ≡ written m (a + k) (plain mark k (little_endian (n - k) r))
+    → with_bytes_at (insert m (a + k) (byte_of mark k r)) (a + (k + 1)) (number_bytes mark (k + 1) (little_endian (n - (k + 1)) (r / 256))) ≡ with_bytes_at m (a + k) (number_bytes mark k (little_endian (n - k) r))
 written_step m a n k r mark h =
     let f : (a + k) + 1 ≡ a + (k + 1) = omega arith in
-    sym (ap (written m (a + k)) (next_digits mark n k r h)
-    ∙ ap (λ t. written (insert m (a + k) (byte_of mark k r)) t (plain mark (k + 1) (little_endian (n - (k + 1)) (r / 256)))) f)
+    sym (ap (with_bytes_at m (a + k)) (next_digits mark n k r h)
+    ∙ ap (λ t. with_bytes_at (insert m (a + k) (byte_of mark k r)) t (number_bytes mark (k + 1) (little_endian (n - (k + 1)) (r / 256)))) f)
 
-pub plain_long : (mark : Option ℕ) (j n r : ℕ) → length (plain mark j (little_endian n r)) ≡ n
+pub plain_long : (mark : Option ℕ) (j n r : ℕ) → length (number_bytes mark j (little_endian n r)) ≡ n
 plain_long mark j zero r = refl
 plain_long mark j (suc n) r = ap suc (plain_long mark (j + 1) n (r / 256))
 
 -- the marks of bytes, one after the other
-marked_next : (bs : List Byte) (t k : ℕ) → k < length bs → are_marked (drop k bs) t k ≡ (has_mark (get_or bs k blank).mark t k && are_marked (drop (k + 1) bs) t (k + 1))
+marked_next : (bs : List Byte) (t k : ℕ) → k < length bs → are_marked (drop k bs) t k ≡ (has_mark (get_or bs k blank_byte).mark t k && are_marked (drop (k + 1) bs) t (k + 1))
 marked_next bs t k h =
     let e : suc k ≡ k + 1 = omega arith in
-    ap (λ xs. are_marked xs t k) (drop-cons bs k blank h ∙ ap (λ j. get_or bs k blank ∷ drop j bs) e)
+    ap (λ xs. are_marked xs t k) (drop-cons bs k blank_byte h ∙ ap (λ j. get_or bs k blank_byte ∷ drop j bs) e)
 
-pub marked_step : (bs : List Byte) (t k : ℕ) (b : Byte) → k < length bs → b ≡ get_or bs k blank → has_mark b.mark t k ≡ true → are_marked (drop (k + 1) bs) t (k + 1) ≡ are_marked (drop k bs) t k
+pub marked_step : (bs : List Byte) (t k : ℕ) (b : Byte) → k < length bs → b ≡ get_or bs k blank_byte → has_mark b.mark t k ≡ true → are_marked (drop (k + 1) bs) t (k + 1) ≡ are_marked (drop k bs) t k
 marked_step bs t k b h e m =
     sym (marked_next bs t k h ∙ ap (λ (x : Byte). has_mark x.mark t k && are_marked (drop (k + 1) bs) t (k + 1)) (sym e) ∙ ap (λ c. c && are_marked (drop (k + 1) bs) t (k + 1)) m)
 
-pub marked_stop : (bs : List Byte) (t k : ℕ) (b : Byte) → k < length bs → b ≡ get_or bs k blank → has_mark b.mark t k ≡ false → false ≡ are_marked (drop k bs) t k
+pub marked_stop : (bs : List Byte) (t k : ℕ) (b : Byte) → k < length bs → b ≡ get_or bs k blank_byte → has_mark b.mark t k ≡ false → false ≡ are_marked (drop k bs) t k
 marked_stop bs t k b h e m =
     sym (marked_next bs t k h ∙ ap (λ (x : Byte). has_mark x.mark t k && are_marked (drop (k + 1) bs) t (k + 1)) (sym e) ∙ ap (λ c. c && are_marked (drop (k + 1) bs) t (k + 1)) m)
 
@@ -74,7 +74,7 @@ marked_four : (given : Bool) (m t : ℕ) → has_mark (cond given (Some (m, 0)) 
 marked_four true m t = each_same (m == t)
 marked_four false m t = refl
 
-pub four_marked : (h : Packed) (bs : List Byte) (t : ℕ) → length bs ≡ 4 → ((k : ℕ) → k < 4 → Some (number_byte h k) ≡ Some (get_or bs k blank)) → has_mark (pair_if (h.kind - 48) h.mark 0) t 0 ≡ are_marked bs t 0
+pub four_marked : (h : Packed) (bs : List Byte) (t : ℕ) → length bs ≡ 4 → ((k : ℕ) → k < 4 → Some (number_byte h k) ≡ Some (get_or bs k blank_byte)) → has_mark (pair_if (h.kind - 48) h.mark 0) t 0 ≡ are_marked bs t 0
 four_marked h [] t l f = absurd (omega (arith, l))
 four_marked h (x ∷ []) t l f = absurd (omega (arith, l))
 four_marked h (x ∷ y ∷ []) t l f = absurd (omega (arith, l))
@@ -99,7 +99,7 @@ marked_eight : (given : Bool) (m t : ℕ) → has_mark (cond given (Some (m, 0))
 marked_eight true m t = each_of_eight (m == t)
 marked_eight false m t = refl
 
-pub eight_marked : (h : Packed) (bs : List Byte) (t : ℕ) → length bs ≡ 8 → ((k : ℕ) → k < 8 → (get_or bs k blank).mark ≡ pair_if ((h.kind - 64) % 2) h.mark k) → has_mark (pair_if ((h.kind - 64) % 2) h.mark 0) t 0 ≡ are_marked bs t 0
+pub eight_marked : (h : Packed) (bs : List Byte) (t : ℕ) → length bs ≡ 8 → ((k : ℕ) → k < 8 → (get_or bs k blank_byte).mark ≡ pair_if ((h.kind - 64) % 2) h.mark k) → has_mark (pair_if ((h.kind - 64) % 2) h.mark 0) t 0 ≡ are_marked bs t 0
 eight_marked h [] t l f = absurd (omega (arith, l))
 eight_marked h (a ∷ []) t l f = absurd (omega (arith, l))
 eight_marked h (a ∷ b ∷ []) t l f = absurd (omega (arith, l))

@@ -35,8 +35,8 @@ by_buckets i [] es = es
 by_buckets i (w ∷ ws) es = by_bucket i w (by_buckets (i + 1) ws es)
 
 -- all pages
-abbrev pub paged : Pages → List (ℕ × List (Option Byte))
-paged p = by_buckets 0 p.buckets.items p.overflow.entries
+abbrev pub all_pages : Pages → List (ℕ × List (Option Byte))
+all_pages p = by_buckets 0 p.buckets.items p.overflow.entries
 
 -- the page with a number, if there is one
 abbrev pub page_said : List (ℕ × List (Option Byte)) → ℕ → Option (List (Option Byte))
@@ -65,5 +65,5 @@ LendsNear s k r = Lends pages.the_row page.the_row s r (with_near s.now k)
 -- a page that is there ends as the last page behind r, and nothing else is said of any number; at `None` nothing changes
 abbrev pub LendsPage : MutBor Pages → ℕ → Option (MutBor (List (Option Byte))) → Fml
 LendsPage s k r = LendsSo pages.the_row page.the_row s r
-    (λ n w. IsSome (page_said (paged s.now) k) → SaysAt (paged s.now) (paged n) k (Some w))
-    (λ n. paged n ≡ paged s.now)
+    (λ n w. IsSome (page_said (all_pages s.now) k) → SaysAt (all_pages s.now) (all_pages n) k (Some w))
+    (λ n. all_pages n ≡ all_pages s.now)

@@ -3,7 +3,7 @@ ghost use Rattle.std.specs.Prelude.{◌≡◌, ℕ, ◌%◌, ◌<◌, [], None, 
 ghost use Rattle.std.specs.Option.{option_copied, option_copied_mut};
 ghost use Rattle.std.specs.Borrow.{sem};
 ghost use Rattle.pv_shadow.specs.declared.table.Bucket.TheVariants.{Free, Taken};
-ghost use Rattle.pv_shadow.specs.Buckets.{page_in, near_in, paged, page_said, SaysAt, LendsPage, LendsNear, LendsBucket};
+ghost use Rattle.pv_shadow.specs.Buckets.{page_in, near_in, all_pages, page_said, SaysAt, LendsPage, LendsNear, LendsBucket};
 
 use crate::page::Page;
 use pv_prov::NoMemory;
@@ -95,7 +95,7 @@ fn bucket_of(k: u64) -> usize
 impl Pages {
     /// No pages yet.
     pub(crate) fn new(alloc: Global) -> Self
-        ensures { paged result ≡ [] }
+        ensures { all_pages result ≡ [] }
     {
         Pages {
             buckets: Vec::new(alloc),
@@ -125,7 +125,7 @@ impl Pages {
     /// The page with this number.
     #[inline(always)]
     pub(crate) fn get(&self, k: u64) -> Option<&Page>
-        ensures value { option_copied result ≡ page_said (paged self.now) k }
+        ensures value { option_copied result ≡ page_said (all_pages self.now) k }
     {
         match self.near(k) {
             Some(page) => Some(page),
@@ -147,7 +147,7 @@ impl Pages {
     #[inline(always)]
     pub(crate) fn get_mut(&mut self, k: u64) -> Option<&mut Page>
         ensures* writes_back { sem 𝓛 (LendsPage self.entry k result) }
-        ensures value { option_copied_mut result ≡ page_said (paged self.old) k }
+        ensures value { option_copied_mut result ≡ page_said (all_pages self.old) k }
     {
         if self.is_near(k) {
             Some(self.near_mut(k))
@@ -158,7 +158,7 @@ impl Pages {
 
     // There are buckets from here on.
     fn make_buckets(&mut self) -> Result<(), NoMemory>
-        ensures { paged self.new ≡ paged self.old }
+        ensures { all_pages self.new ≡ all_pages self.old }
     {
         while self.buckets.len() < BUCKETS {
             self.buckets.push(Bucket::Free)?;
@@ -179,9 +179,9 @@ impl Pages {
 
     /// A page for a number that has none; unchanged where there is no memory.
     pub(crate) fn insert(&mut self, k: u64, page: Page) -> Result<(), NoMemory>
-        requires { page_said (paged self.old) k ≡ None }
-        ensures ok { OnOk result (SaysAt (paged self.old) (paged self.new) k (Some page)) }
-        ensures err { OnErr result (paged self.new ≡ paged self.old) }
+        requires { page_said (all_pages self.old) k ≡ None }
+        ensures ok { OnOk result (SaysAt (all_pages self.old) (all_pages self.new) k (Some page)) }
+        ensures err { OnErr result (all_pages self.new ≡ all_pages self.old) }
     {
         self.make_buckets()?;
         if self.is_free(k) {
@@ -194,8 +194,8 @@ impl Pages {
 
     /// No page has this number from here on.
     pub(crate) fn remove(&mut self, k: u64) -> Option<Page>
-        ensures value { result ≡ page_said (paged self.old) k }
-        ensures updates { SaysAt (paged self.old) (paged self.new) k None }
+        ensures value { result ≡ page_said (all_pages self.old) k }
+        ensures updates { SaysAt (all_pages self.old) (all_pages self.new) k None }
     {
         let farther = self.overflow.remove(&k);
         if self.is_near(k) {

@@ -6,7 +6,7 @@ use Rattle.pv_journal.specs.Obeying.{Held, Bond}
 use Rattle.pv_shown.specs.declared.reading.Command.TheVariants as command
 use Rattle.pv_shown.specs.declared.reading.CommandError.TheVariants as error
 use Rattle.pv_shown.specs.Commands.{commands_of, number_in, command_in, refusal_line}
-use Rattle.pv_shown.specs.Shown.{Run, line, moved, runs_on, report_of, pairs_text, at_text, live_line, count_line}
+use Rattle.pv_shown.specs.Shown.{Run, line, position_after, runs_on, report_of, pairs_text, at_text, live_line, count_line}
 
 -- ---- files (worked: commands_of)
 
@@ -79,8 +79,8 @@ last_turns : (report_of dangling (command.Go 8 ∷ command.At 131072 ∷ []) ≡
     × (report_of dangling (command.Go 9 ∷ command.At 131072 ∷ []) ≡ line (codes "turn " ++ decimal 9 ++ codes " running") ++ (at_text [] 131072 ++ []))
 last_turns = (refl, refl)
 
-moves : (moved dangling 9 command.Next ≡ 10) × (moved dangling 15 command.Next ≡ 15) × (moved dangling 9 command.Prev ≡ 2) × (moved dangling 1 command.Prev ≡ 1)
-    × (moved dangling 20 command.Prev ≡ 15) × (moved dangling 1 (command.Back 5) ≡ 1) × (moved dangling 6 (command.Back 5) ≡ 1) × (moved dangling 999999 (command.Step 5) ≡ 1000000)
+moves : (position_after dangling 9 command.Next ≡ 10) × (position_after dangling 15 command.Next ≡ 15) × (position_after dangling 9 command.Prev ≡ 2) × (position_after dangling 1 command.Prev ≡ 1)
+    × (position_after dangling 20 command.Prev ≡ 15) × (position_after dangling 1 (command.Back 5) ≡ 1) × (position_after dangling 6 (command.Back 5) ≡ 1) × (position_after dangling 999999 (command.Step 5) ≡ 1000000)
 moves = (refl, refl, refl, refl, refl, refl, refl, refl)
 
 running : (runs_on dangling 14 ≡ true) × (runs_on dangling 15 ≡ false) × (runs_on dangling 16 ≡ false) × (runs_on (record dangling { by_turns = true }) 15 ≡ true)

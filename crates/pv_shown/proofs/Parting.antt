@@ -10,7 +10,7 @@ use Rattle.std.proofs.lemmas.Grind.{flat_map-append}
 use Rattle.std.specs.List.{filter, flat_map, fold, list_all, count_by}
 use Rattle.pv_journal.specs.Obeying.{Held}
 use Rattle.pv_shown.specs.declared.past.Life.{Life}
-use Rattle.pv_shown.specs.Shown.{is_live, live_line, placed, by_base, reaches}
+use Rattle.pv_shown.specs.Shown.{is_live, live_line, put_by_address, by_base, reaches}
 use Rattle.pv_shown.specs.Recorded.{came, is_made, lives_then, held_then, helds_then, EndsBy, AreEnds}
 use Rattle.pv_shown.proofs.Lists.{all_push}
 use Rattle.pv_shown.proofs.Walks.{live_lines, live_counted, filter_count}
@@ -91,9 +91,9 @@ over_count n end xs by over =
     sym (live_counted [] n xs ∙ filter_count is_live (helds_then [] n xs) ∙ ap length (none_told [] n is_live (λ x e. e) xs (over_ended end n xs by over)))
 
 pub over_found : (names : List (List ℕ)) (n a : ℕ) (end : Option ℕ) (xs : List Life) (ys : List Held) → EndsBy end xs → came end n ≡ true
-    → ys ≡ fold (λ zs x. placed x zs) ys (filter (reaches a) (helds_then names n xs))
+    → ys ≡ fold (λ zs x. put_by_address x zs) ys (filter (reaches a) (helds_then names n xs))
 over_found names n a end xs ys by over =
-    sym (ap (λ l. fold (λ zs x. placed x zs) ys l) (none_told names n (reaches a) (λ x e. ap (λ b. b && (leb x.base a && leb a (x.base + x.size))) e) xs (over_ended end n xs by over)))
+    sym (ap (λ l. fold (λ zs x. put_by_address x zs) ys l) (none_told names n (reaches a) (λ x e. ap (λ b. b && (leb x.base a && leb a (x.base + x.size))) e) xs (over_ended end n xs by over)))
 
 -- a block and what is behind it
 split_told : (names : List (List ℕ)) (n : ℕ) (q : Held → Bool) (xs : List Life) → filter q (helds_then names n xs) ≡ filter q (helds_then names n (take 256 xs)) ++ filter q (helds_then names n (drop 256 xs))
@@ -131,27 +131,27 @@ pub last_fits : (n : ℕ) (rest lives : List Life) (count k : ℕ) → k ≡ cou
 last_fits n rest lives count k is left short = let few = count_by-le-length (lives_then n) lives in omega (arith, is, left, few, short)
 
 pub found_block : (names : List (List ℕ)) (n a : ℕ) (rest block others : List Life) (ys zs all : List Held) → block ≡ take 256 rest → others ≡ drop 256 rest
-    → zs ≡ fold (λ zs x. placed x zs) ys (filter (reaches a) (helds_then names n block)) → fold (λ zs x. placed x zs) ys (filter (reaches a) (helds_then names n rest)) ≡ all
-    → fold (λ zs x. placed x zs) zs (filter (reaches a) (helds_then names n others)) ≡ all
+    → zs ≡ fold (λ zs x. put_by_address x zs) ys (filter (reaches a) (helds_then names n block)) → fold (λ zs x. put_by_address x zs) ys (filter (reaches a) (helds_then names n rest)) ≡ all
+    → fold (λ zs x. put_by_address x zs) zs (filter (reaches a) (helds_then names n others)) ≡ all
 found_block names n a rest block others ys zs all first behind is left =
-    ap (λ w. fold (λ zs x. placed x zs) w (filter (reaches a) (helds_then names n others))) (is ∙ ap (λ b. fold (λ zs x. placed x zs) ys (filter (reaches a) (helds_then names n b))) first)
-    ∙ ap (λ l. fold (λ zs x. placed x zs) (fold (λ zs x. placed x zs) ys (filter (reaches a) (helds_then names n (take 256 rest)))) (filter (reaches a) (helds_then names n l))) behind
-    ∙ sym (fold-append (λ zs x. placed x zs) ys (filter (reaches a) (helds_then names n (take 256 rest))) (filter (reaches a) (helds_then names n (drop 256 rest))))
-    ∙ ap (λ l. fold (λ zs x. placed x zs) ys l) (sym (split_told names n (reaches a) rest)) ∙ left
+    ap (λ w. fold (λ zs x. put_by_address x zs) w (filter (reaches a) (helds_then names n others))) (is ∙ ap (λ b. fold (λ zs x. put_by_address x zs) ys (filter (reaches a) (helds_then names n b))) first)
+    ∙ ap (λ l. fold (λ zs x. put_by_address x zs) (fold (λ zs x. put_by_address x zs) ys (filter (reaches a) (helds_then names n (take 256 rest)))) (filter (reaches a) (helds_then names n l))) behind
+    ∙ sym (fold-append (λ zs x. put_by_address x zs) ys (filter (reaches a) (helds_then names n (take 256 rest))) (filter (reaches a) (helds_then names n (drop 256 rest))))
+    ∙ ap (λ l. fold (λ zs x. put_by_address x zs) ys l) (sym (split_told names n (reaches a) rest)) ∙ left
 
 -- ---- how many were found
 
-placed_length : (x : Held) (ys : List Held) → length (placed x ys) ≡ suc (length ys)
+placed_length : (x : Held) (ys : List Held) → length (put_by_address x ys) ≡ suc (length ys)
 placed_length x [] = refl
 placed_length x (y ∷ ys) = by (placed_length x ys) (ltb x.base y.base)
   where
-    by : length (placed x ys) ≡ suc (length ys) → (b : Bool) → length (cond b (x ∷ y ∷ ys) (y ∷ placed x ys)) ≡ suc (suc (length ys))
+    by : length (put_by_address x ys) ≡ suc (length ys) → (b : Bool) → length (cond b (x ∷ y ∷ ys) (y ∷ put_by_address x ys)) ≡ suc (suc (length ys))
     by rest true = refl
     by rest false = ap suc rest
 
-all_placed : (ys xs : List Held) → length (fold (λ zs x. placed x zs) ys xs) ≡ length ys + length xs
+all_placed : (ys xs : List Held) → length (fold (λ zs x. put_by_address x zs) ys xs) ≡ length ys + length xs
 all_placed ys [] = omega arith
-all_placed ys (x ∷ xs) = omega (arith, all_placed (placed x ys) xs, placed_length x ys)
+all_placed ys (x ∷ xs) = omega (arith, all_placed (put_by_address x ys) xs, placed_length x ys)
 
 pub found_count : (names : List (List ℕ)) (n a : ℕ) (found : List Life) (hs : List Held) → map (held_then names n) found ≡ by_base (filter (reaches a) hs) → length found ≡ count_by (reaches a) hs
 found_count names n a found hs is =

@@ -7,7 +7,7 @@ use Rattle.pv_shown.specs.declared.reading.Command.{Command}
 use Rattle.pv_shown.specs.declared.past.Life.{Life}
 use Rattle.pv_shown.specs.declared.past.Tie.{Tie}
 use Rattle.pv_journal.specs.Obeying.{Held}
-use Rattle.pv_shown.specs.Shown.{Run, moved, shown, shown_from, is_live, live_line, pair_line, pair_lines, placed, reaches, count_line}
+use Rattle.pv_shown.specs.Shown.{Run, position_after, command_text, shown_from, is_live, live_line, pair_line, pair_lines, put_by_address, reaches, count_line}
 use Rattle.pv_shown.specs.Recorded.{is_made, is_tied, lives_then, reaches_then, held_then, helds_then, bond_then, bonds_then}
 
 -- ---- lines of what is left
@@ -122,28 +122,28 @@ tied_counted names n bs = filter_count (is_tied n) bs ∙ sym (length-map (filte
 -- ---- what is at an address
 
 pub found_next : (names : List (List ℕ)) (n a : ℕ) (xs : List Life) (i : ℕ) (d : Life) (ys zs all : List Held) → i < length xs
-    → zs ≡ cond (reaches_then n a (get_or xs i d)) (placed (held_then names n (get_or xs i d)) ys) ys
-    → fold (λ ys x. placed x ys) ys (filter (reaches a) (helds_then names n (drop i xs))) ≡ all → fold (λ ys x. placed x ys) zs (filter (reaches a) (helds_then names n (drop (i + 1) xs))) ≡ all
+    → zs ≡ cond (reaches_then n a (get_or xs i d)) (put_by_address (held_then names n (get_or xs i d)) ys) ys
+    → fold (λ ys x. put_by_address x ys) ys (filter (reaches a) (helds_then names n (drop i xs))) ≡ all → fold (λ ys x. put_by_address x ys) zs (filter (reaches a) (helds_then names n (drop (i + 1) xs))) ≡ all
 found_next names n a xs i d ys zs all lt is left =
-    ap (λ w. fold (λ ys x. placed x ys) w (filter (reaches a) (helds_then names n (drop (i + 1) xs)))) is
-    ∙ sym (told_fold (is_made n) (reaches a) (held_then names n) (λ ys x. placed x ys) ys (get_or xs i d) (drop (i + 1) xs))
-    ∙ sym (ap (λ l. fold (λ ys x. placed x ys) ys (filter (reaches a) (helds_then names n l))) (drop_more xs i d lt)) ∙ left
+    ap (λ w. fold (λ ys x. put_by_address x ys) w (filter (reaches a) (helds_then names n (drop (i + 1) xs)))) is
+    ∙ sym (told_fold (is_made n) (reaches a) (held_then names n) (λ ys x. put_by_address x ys) ys (get_or xs i d) (drop (i + 1) xs))
+    ∙ sym (ap (λ l. fold (λ ys x. put_by_address x ys) ys (filter (reaches a) (helds_then names n l))) (drop_more xs i d lt)) ∙ left
 
 pub found_ends : (names : List (List ℕ)) (n a : ℕ) (xs : List Life) (i : ℕ) (ys all : List Held) → length xs ≤ i
-    → fold (λ ys x. placed x ys) ys (filter (reaches a) (helds_then names n (drop i xs))) ≡ all → ys ≡ all
-found_ends names n a xs i ys all le left = sym (ap (λ l. fold (λ ys x. placed x ys) ys (filter (reaches a) (helds_then names n l))) (drop_all i xs le)) ∙ left
+    → fold (λ ys x. put_by_address x ys) ys (filter (reaches a) (helds_then names n (drop i xs))) ≡ all → ys ≡ all
+found_ends names n a xs i ys all le left = sym (ap (λ l. fold (λ ys x. put_by_address x ys) ys (filter (reaches a) (helds_then names n l))) (drop_all i xs le)) ∙ left
 
 pub at_counted : (names : List (List ℕ)) (n a : ℕ) (xs : List Life) → count_by (reaches_then n a) xs ≡ count_by (reaches a) (helds_then names n xs)
 at_counted names n a xs = sym (told_count (is_made n) (reaches a) (held_then names n) xs)
 
 -- one put before the first that begins above it
 pub put_placed : (names : List (List ℕ)) (n : ℕ) (x : Life) (ys : List Life)
-    → map (held_then names n) (insert ys (position_or_len (λ y. ltb x.base y.base) ys) x) ≡ placed (held_then names n x) (map (held_then names n) ys)
+    → map (held_then names n) (insert ys (position_or_len (λ y. ltb x.base y.base) ys) x) ≡ put_by_address (held_then names n x) (map (held_then names n) ys)
 put_placed names n x [] = refl
 put_placed names n x (y ∷ ys) = by (put_placed names n x ys) (ltb x.base y.base)
   where
-    by : map (held_then names n) (insert ys (position_or_len (λ y. ltb x.base y.base) ys) x) ≡ placed (held_then names n x) (map (held_then names n) ys) → (b : Bool) → map (held_then names n) (insert (y ∷ ys) (cond (not b) (1 + position_or_len (λ y. ltb x.base y.base) ys) 0) x)
-        ≡ cond b (held_then names n x ∷ held_then names n y ∷ map (held_then names n) ys) (held_then names n y ∷ placed (held_then names n x) (map (held_then names n) ys))
+    by : map (held_then names n) (insert ys (position_or_len (λ y. ltb x.base y.base) ys) x) ≡ put_by_address (held_then names n x) (map (held_then names n) ys) → (b : Bool) → map (held_then names n) (insert (y ∷ ys) (cond (not b) (1 + position_or_len (λ y. ltb x.base y.base) ys) 0) x)
+        ≡ cond b (held_then names n x ∷ held_then names n y ∷ map (held_then names n) ys) (held_then names n y ∷ put_by_address (held_then names n x) (map (held_then names n) ys))
     by rest true = refl
     by rest false =
         let e : 1 + position_or_len (λ y. ltb x.base y.base) ys ≡ suc (position_or_len (λ y. ltb x.base y.base) ys) = omega arith in
@@ -151,11 +151,11 @@ put_placed names n x (y ∷ ys) = by (put_placed names n x ys) (ltb x.base y.bas
 
 -- ---- commands
 
-pub shown_next : (r : Run) (cs : List Command) (i n m : ℕ) (d : Command) (text more all : List ℕ) → i < length cs → m ≡ moved r n (get_or cs i d)
-    → more ≡ text ++ shown r m (get_or cs i d) → text ++ shown_from r n (drop i cs) ≡ all → more ++ shown_from r m (drop (i + 1) cs) ≡ all
+pub shown_next : (r : Run) (cs : List Command) (i n m : ℕ) (d : Command) (text more all : List ℕ) → i < length cs → m ≡ position_after r n (get_or cs i d)
+    → more ≡ text ++ command_text r m (get_or cs i d) → text ++ shown_from r n (drop i cs) ≡ all → more ++ shown_from r m (drop (i + 1) cs) ≡ all
 shown_next r cs i n m d text more all lt is adds left =
-    walk_more (shown_from r n) (shown_from r m) cs i d text more (shown r m (get_or cs i d)) all lt adds
-    (ap (λ k. shown r k (get_or cs i d) ++ shown_from r k (drop (i + 1) cs)) (sym is)) left
+    walk_more (shown_from r n) (shown_from r m) cs i d text more (command_text r m (get_or cs i d)) all lt adds
+    (ap (λ k. command_text r k (get_or cs i d) ++ shown_from r k (drop (i + 1) cs)) (sym is)) left
 
 -- ---- lines and their count
 

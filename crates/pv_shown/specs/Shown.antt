@@ -40,13 +40,13 @@ last_turn n before [] = before
 last_turn n before (row ∷ rows) = last_turn n (if nat_lt row.turn n && nat_le 1 row.turn then row.turn else before) rows
 
 -- docs/FORMATS.md, Commands: the position to which a command moves (5.1.2.3p1)
-abbrev pub moved : Run → (n : ℕ) → Command → ℕ
-moved r n (command.Go m) = m
-moved r n (command.Step m) = min (n + m) last_position
-moved r n (command.Back m) = max (n - m) 1
-moved r n command.Next = next_turn n r.rows
-moved r n command.Prev = last_turn n n r.rows
-moved r n _ = n
+abbrev pub position_after : Run → (n : ℕ) → Command → ℕ
+position_after r n (command.Go m) = m
+position_after r n (command.Step m) = min (n + m) last_position
+position_after r n (command.Back m) = max (n - m) 1
+position_after r n command.Next = next_turn n r.rows
+position_after r n command.Prev = last_turn n n r.rows
+position_after r n _ = n
 
 -- docs/FORMATS.md, Commands: how the run with the bound n ends (5.1.2.3)
 abbrev pub where_text : Run → (n : ℕ) → List ℕ
@@ -102,13 +102,13 @@ abbrev pub reaches : (address : ℕ) → Held → Bool
 reaches a x = x.live && (nat_le x.base a && nat_le a (x.base + x.size))
 
 -- 6.2.4p2: an instance put among others by its address
-abbrev pub placed : Held → List Held → List Held
-placed x [] = x ∷ []
-placed x (y ∷ ys) = if nat_lt x.base y.base then x ∷ y ∷ ys else y ∷ placed x ys
+abbrev pub put_by_address : Held → List Held → List Held
+put_by_address x [] = x ∷ []
+put_by_address x (y ∷ ys) = if nat_lt x.base y.base then x ∷ y ∷ ys else y ∷ put_by_address x ys
 
 -- 6.2.4p2: instances by their addresses
 abbrev pub by_base : List Held → List Held
-by_base xs = fold (λ (ys : List Held) (x : Held). placed x ys) [] xs
+by_base xs = fold (λ (ys : List Held) (x : Held). put_by_address x ys) [] xs
 
 -- docs/FORMATS.md, Commands: the line of an instance, with the place of the address in it (6.5.6p8)
 abbrev pub inside_line : (address : ℕ) → Held → List ℕ
@@ -121,16 +121,16 @@ at_text xs a = flat_map (inside_line a) (by_base (filter (reaches a) xs)) ++ cou
 -- ---- commands
 
 -- docs/FORMATS.md, Commands: what a command prints at the position to which it moved (5.1.2.3)
-abbrev pub shown : Run → (n : ℕ) → Command → List ℕ
-shown r n command.List = list_text (state_at r.rows n).held
-shown r n command.Pairs = pairs_text (state_at r.rows n).bonds
-shown r n (command.At a) = at_text (state_at r.rows n).held a
-shown r n _ = where_text r n
+abbrev pub command_text : Run → (n : ℕ) → Command → List ℕ
+command_text r n command.List = list_text (state_at r.rows n).held
+command_text r n command.Pairs = pairs_text (state_at r.rows n).bonds
+command_text r n (command.At a) = at_text (state_at r.rows n).held a
+command_text r n _ = where_text r n
 
 -- docs/FORMATS.md, Commands: what commands print from a position on, in their order (5.1.2.3)
 abbrev pub shown_from : Run → (n : ℕ) → List Command → List ℕ
 shown_from r n [] = []
-shown_from r n (c ∷ cs) = shown r (moved r n c) c ++ shown_from r (moved r n c) cs
+shown_from r n (c ∷ cs) = command_text r (position_after r n c) c ++ shown_from r (position_after r n c) cs
 
 -- docs/FORMATS.md, Commands: the first position is 1 (5.1.2.3p1)
 -- worked: at_positions, last_turns, moves, running, settled, at_both

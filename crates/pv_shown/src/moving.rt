@@ -35,7 +35,7 @@ pub(crate) fn runs_on(ran: &Ran<'_>, n: u64) -> bool
 /// The position to which a command moves.
 pub(crate) fn moved(ran: &Ran<'_>, n: u64, command: Command) -> u64
     requires ordered { IsNonDecreasingBy (λ l. l.turn) ran.now.lines.now }
-    ensures { result ≡ specified.moved (run_view ran.now) n command }
+    ensures { result ≡ specified.position_after (run_view ran.now) n command }
 {
     match command {
         Command::Go(turn) => turn,

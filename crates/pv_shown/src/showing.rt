@@ -377,7 +377,7 @@ fn put_block(
 ) -> Result<(), NoMemory>
     requires { EndsBy end block.now }
     ensures { OnOk result ((names : List (List ℕ)) → map (held_then names n) found.new.items
-        ≡ fold (λ ys x. specified.placed x ys) (map (held_then names n) found.old.items) (filter (specified.reaches a) (helds_then names n block.now))) }
+        ≡ fold (λ ys x. specified.put_by_address x ys) (map (held_then names n) found.old.items) (filter (specified.reaches a) (helds_then names n block.now))) }
 {
     if came(end, n) {
         Ok(())
@@ -388,7 +388,7 @@ fn put_block(
 
 fn put_each(found: &mut Vec<Life>, lives: &[Life], n: u64, a: u64) -> Result<(), NoMemory>
     ensures { OnOk result ((names : List (List ℕ)) → map (held_then names n) found.new.items
-        ≡ fold (λ ys x. specified.placed x ys) (map (held_then names n) found.old.items) (filter (specified.reaches a) (helds_then names n lives.now))) }
+        ≡ fold (λ ys x. specified.put_by_address x ys) (map (held_then names n) found.old.items) (filter (specified.reaches a) (helds_then names n lives.now))) }
 {
     for x in lives {
         put_if(found, x, n, a)?;
@@ -399,7 +399,7 @@ fn put_each(found: &mut Vec<Life>, lives: &[Life], n: u64, a: u64) -> Result<(),
 // One more among those, if it was there.
 fn put_if(found: &mut Vec<Life>, x: &Life, n: u64, a: u64) -> Result<(), NoMemory>
     ensures { OnOk result ((names : List (List ℕ)) → map (held_then names n) found.new.items
-        ≡ (if recorded.reaches_then n a x.now then specified.placed (held_then names n x.now) (map (held_then names n) found.old.items)
+        ≡ (if recorded.reaches_then n a x.now then specified.put_by_address (held_then names n x.now) (map (held_then names n) found.old.items)
         else map (held_then names n) found.old.items)) }
 {
     if reaches_then(x, n, a) {
@@ -412,7 +412,7 @@ fn put_if(found: &mut Vec<Life>, x: &Life, n: u64, a: u64) -> Result<(), NoMemor
 // One more among those.
 fn put(found: &mut Vec<Life>, x: Life) -> Result<(), NoMemory>
     ensures { OnOk result ((names : List (List ℕ)) (n : ℕ) → map (held_then names n) found.new.items
-        ≡ specified.placed (held_then names n x) (map (held_then names n) found.old.items)) }
+        ≡ specified.put_by_address (held_then names n x) (map (held_then names n) found.old.items)) }
 {
     let place = place_below(found.as_slice(), x.base);
     found.insert(place, x)?;

@@ -67,7 +67,7 @@ fn add_one(
 ) -> Result<(), NoMemory>
     requires tells { Tells ran.now.names.now (rows_under ran.now.names.now ran.now.lines.now) past.now.lives.items past.now.ties.items }
     requires ends { AreEnds past.now.lives.items past.now.ends.items }
-    ensures { OnOk result (text.new.items ≡ text.old.items ++ specified.shown (run_view ran.now) n command) }
+    ensures { OnOk result (text.new.items ≡ text.old.items ++ specified.command_text (run_view ran.now) n command) }
 {
     match command {
         Command::Go(_) => add_where(alloc, text, ran, n),

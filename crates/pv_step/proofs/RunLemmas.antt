@@ -12,7 +12,7 @@ use Rattle.pv_watch.specs.Slots.{Present, Told, SayAll}
 use Rattle.pv_explain.specs.Texts.{journal_kind}
 use Rattle.pv_script.specs.Lines.{ScriptLine}
 use Rattle.pv_typed.specs.Known.{Each}
-use Rattle.pv_typed.specs.Tables.{whole}
+use Rattle.pv_typed.specs.Tables.{whole_unit}
 use Rattle.pv_typed.specs.TypedUnits.{WholeUnit}
 use Rattle.pv_world.specs.Worlds.{Worth}
 use Rattle.pv_eval.specs.States.{Res, end_of}
@@ -84,7 +84,7 @@ run_obeys : (source : List ℕ) (unit : WholeUnit) (lines : List ScriptLine) (ru
     → IsFit runs.tables → Each FitsWords (end_of run).events → names ≡ unit.names → TellsAJournal (take 18446744073709551615 (map event_of (end_of run).events)) names
 run_obeys source unit lines run names runs comes fit words named =
     let u = runs.tables in
-    let typed = program_typed source (whole u) (subst (λ (w : WholeUnit). Comes source (Program w)) (sym runs.stands) comes) in
+    let typed = program_typed source (whole_unit u) (subst (λ (w : WholeUnit). Comes source (Program w)) (sym runs.stands) comes) in
     let told : TellsAJournal (take 18446744073709551615 (events_at u lines 1000000)) u.names =
     run_tells_first u lines 1000000 18446744073709551615 (units_named source typed.0 typed.1 u typed.2 typed.3 fit.known) fit.filled
     (words_fit (run_end u lines 1000000).events (subst (λ (r : Res Worth). Each FitsWords (end_of r).events) runs.is words)) in

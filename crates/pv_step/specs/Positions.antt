@@ -13,13 +13,13 @@ use Rattle.pv_shown.specs.Commands.{last_position}
 
 -- the run of a unit with its script, when so many turns may be taken, each pair of candidates is settled by its uses (the memory model), and a pointer
 -- to what has ended is indeterminate (6.2.4p2)
-abbrev pub bounded : Stored → List ScriptLine → (bound : ℕ) → Res Worth
-bounded u script n = run_at u None true script n
+abbrev pub run_with_bound : Stored → List ScriptLine → (bound : ℕ) → Res Worth
+run_with_bound u script n = run_at u None true script n
 
 -- the run that is looked at, with as many turns as there are positions, ends so
 abbrev pub IsWhole : Stored → List ScriptLine → Ending → Type 0
-IsWhole u script e = Ends (bounded u script last_position) u.names e
+IsWhole u script e = Ends (run_with_bound u script last_position) u.names e
 
 -- the memory model: what happened in memory in the run with this bound
 abbrev pub events_in : Stored → List ScriptLine → (bound : ℕ) → List Event
-events_in u script n = map event_of (end_of (bounded u script n)).events
+events_in u script n = map event_of (end_of (run_with_bound u script n)).events

@@ -25,15 +25,15 @@ script_in (word ∷ name ∷ []) = script_by word name
 script_in _ = None
 
 -- docs/FORMATS.md, Commands (5.1.2.2.1p2): what two files, each of whose names has a byte, and the words behind them ask for
-abbrev pub asked : (file commands : List ℕ) → List (List ℕ) → Option StepJob
-asked file commands rest =
+abbrev pub step_job_of : (file commands : List ℕ) → List (List ℕ) → Option StepJob
+step_job_of file commands rest =
     if nat_lt 0 (length file)
     then (if nat_lt 0 (length commands) then option_map (λ script. record { file = file; commands = commands; script = script }) (script_in rest) else None)
     else None
 
 -- docs/FORMATS.md, Commands (5.1.2.2.1p2): what the words ask for, if they do: `SOURCE COMMANDS`, with `--script F` behind them or without
 abbrev pub job : List (List ℕ) → Option StepJob
-job (file ∷ commands ∷ rest) = asked file commands rest
+job (file ∷ commands ∷ rest) = step_job_of file commands rest
 job _ = None
 
 -- ---- what the code reads

@@ -5,7 +5,7 @@ ghost use Rattle.pv_watch.specs.Slots.{Present};
 ghost use Rattle.pv_explain.specs.Texts.{journal_kind};
 ghost use Rattle.pv_exec.specs.Outlets.{hall_slots};
 ghost use Rattle.pv_serve.specs.Words.{texts};
-ghost use Rattle.pv_serve.specs.Outside.{sunk};
+ghost use Rattle.pv_serve.specs.Outside.{sink_change};
 ghost use Rattle.pv_serve.specs.Replies.{ReplyCall, Replied, SomeReply, IsReplied};
 ghost use Rattle.pv_step.specs.Words.{job};
 ghost use Rattle.pv_step.specs.ReadWords.{asked_job};
@@ -43,7 +43,7 @@ pub fn step<F: Files, R: Sink>(
       held = F.held files.old;
       faults_old = F.faults files.old;
       faults_new = F.faults files.new;
-      report = sunk R.written R.faults report.old report.new;
+      report = sink_change R.written R.faults report.old report.new;
       status = result;
     } in Replied service call }
     ensures files_same { (n : List ℕ) → F.held files.new n ≡ F.held files.old n }
@@ -67,7 +67,7 @@ fn step_files<F: Files, R: Sink>(
 ) -> u8
     requires hall { hall_slots hall.old its_kind its_wants seen ≡ Present journal_kind 18446744073709551615 [] ∷ [] }
     ensures served { JobServed (asked_job asked.entry) (F.held files.old) (F.faults files.old) (F.faults files.new)
-        (sunk R.written R.faults report.old report.new) result }
+        (sink_change R.written R.faults report.old report.new) result }
     ensures files_same { (n : List ℕ) → F.held files.new n ≡ F.held files.old n }
 {
     match read_files(alloc, asked, files) {
@@ -80,7 +80,7 @@ fn step_files<F: Files, R: Sink>(
 // Answers what was read.
 fn step_text<R: Sink>(alloc: Global, text: &StepText, report: &mut R, hall: &mut Hall) -> u8
     requires hall { hall_slots hall.old its_kind its_wants seen ≡ Present journal_kind 18446744073709551615 [] ∷ [] }
-    ensures { TextServed text.now (sunk R.written R.faults report.old report.new) result }
+    ensures { TextServed text.now (sink_change R.written R.faults report.old report.new) result }
 {
     match answer(alloc, text, hall) {
         Ok(reply) => tell_reply(report, &reply),
@@ -102,7 +102,7 @@ pub fn step_calmly(
       held = λ n. Some (calm_held files.old n);
       faults_old = λ _. 0;
       faults_new = λ _. 0;
-      report = sunk calm_written (λ _. 0) report.old report.new;
+      report = sink_change calm_written (λ _. 0) report.old report.new;
       status = result;
     } in (result ≡ 13) ⊎ SomeReply service call (IsReplied call) }
 {

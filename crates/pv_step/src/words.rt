@@ -27,7 +27,7 @@ pub fn job_asked(words: &[String]) -> Option<Asked<'_>>
 
 // What two files and the words behind them ask for.
 fn asked_by<'a>(file: &'a str, commands: &'a str, rest: &'a [String]) -> Option<Asked<'a>>
-    ensures { IsAsked result (specified.asked file.now commands.now (texts rest.now)) }
+    ensures { IsAsked result (specified.step_job_of file.now commands.now (texts rest.now)) }
 {
     if file.is_empty() {
         return None;

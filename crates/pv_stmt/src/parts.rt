@@ -2,10 +2,10 @@
 ghost use Rattle.pv_tree.specs.Syntax.{NoTrees};
 ghost use Rattle.pv_tree.specs.Tables.{is_declaration, is_expression, is_statement};
 ghost use Rattle.pv_expr_forms.specs.Numbers.{level_number};
-ghost use Rattle.pv_decl_forms.specs.Pieces.{optional, row};
+ghost use Rattle.pv_decl_forms.specs.Pieces.{part_if_any, row};
 ghost use Rattle.pv_decl_forms.specs.Reader.{declaration};
 ghost use Rattle.pv_stmt_forms.specs.Parts.{test_of, PartAnswers, FirstAnswers, HeadAnswers};
-ghost use Rattle.pv_stmt_forms.specs.Statements.{expression, condition, expression_before, simple, returned, declared, label};
+ghost use Rattle.pv_stmt_forms.specs.Statements.{expression, condition, expression_before, simple, return_behind, only_declaration, label};
 ghost use Rattle.pv_expr_forms.specs.Sources.{known_names, tokens_from, IsReady, ReadsInto};
 ghost use Rattle.pv_decl_forms.specs.Sources.{ReadsFrom, RowReads, MayRead};
 
@@ -70,7 +70,7 @@ fn optional_expression<R: TypeReader>(
     into: &mut Unit,
 ) -> Result<(Option<NodeId>, u32), NoMemory>
     requires { IsReady R.types source.now into.old at }
-    ensures { ReadsInto into.old into.new result (λ r. MayRead source.now at into.new is_expression r.0 r.1 (λ ts. optional ts (expression (known_names R.types source.now into.old) depth 1 ts))) }
+    ensures { ReadsInto into.old into.new result (λ r. MayRead source.now at into.new is_expression r.0 r.1 (λ ts. part_if_any ts (expression (known_names R.types source.now into.old) depth 1 ts))) }
 {
     match expression(source, at, Level::Comma, depth, into)? {
         Some((value, end)) => Ok((Some(value), end)),
@@ -122,7 +122,7 @@ pub(crate) fn returned<R: TypeReader>(
     into: &mut Unit,
 ) -> Result<Option<(NodeId, u32)>, NoMemory>
     requires { IsReady R.types source.now into.old at }
-    ensures { ReadsFrom source.now at into.old into.new is_statement result (returned (known_names R.types source.now into.old) depth line) }
+    ensures { ReadsFrom source.now at into.old into.new is_statement result (return_behind (known_names R.types source.now into.old) depth line) }
 {
     match expression_before(source, at, Sign::Semicolon, depth, into)? {
         Some((value, end)) => {
@@ -160,7 +160,7 @@ pub(crate) fn declared<R: TypeReader>(
     into: &mut Unit,
 ) -> Result<Option<(NodeId, u32)>, NoMemory>
     requires { IsReady R.types source.now into.old at }
-    ensures { ReadsFrom source.now at into.old into.new is_declaration result (λ ts. declared (declaration (known_names R.types source.now into.old) depth ts)) }
+    ensures { ReadsFrom source.now at into.old into.new is_declaration result (λ ts. only_declaration (declaration (known_names R.types source.now into.old) depth ts)) }
 {
     let Some((node, end)) = declaration(source, at, depth, into)? else {
         return Ok(None);

@@ -2,8 +2,8 @@
 ghost use Rattle.pv_tree.specs.Syntax.{NoTrees};
 ghost use Rattle.pv_tree.specs.Tables.{tree_at, is_expression, is_item, is_statement, Is};
 ghost use Rattle.pv_decl_forms.specs.Pieces.{row};
-ghost use Rattle.pv_stmt_forms.specs.Parts.{item_in, braced};
-ghost use Rattle.pv_stmt_forms.specs.Statements.{statement, selection, chosen, loop, do_loop, for_loop, switch, labelled, SwitchBlocks, readers};
+ghost use Rattle.pv_stmt_forms.specs.Parts.{item_in, block_behind};
+ghost use Rattle.pv_stmt_forms.specs.Statements.{statement, selection, else_part, loop, do_loop, for_loop, switch, labels_and_statement, SwitchBlocks, readers};
 ghost use Rattle.pv_expr_forms.specs.Sources.{known_names, IsReady, ReadsInto};
 ghost use Rattle.pv_decl_forms.specs.Sources.{ReadsFrom, RowReads};
 ghost use Rattle.pv_stmt.specs.Inner.{statements_within};
@@ -106,7 +106,7 @@ fn chosen<R: TypeReader>(
     requires condition { Is into.old is_expression condition }
     requires body { Is into.old is_statement body }
     ensures { ReadsFrom source.now at into.old into.new is_statement result
-        (chosen (statements_within R.types source.now into.old below) line (tree_at into.old.forest condition) (tree_at into.old.forest body)) }
+        (else_part (statements_within R.types source.now into.old below) line (tree_at into.old.forest condition) (tree_at into.old.forest body)) }
 {
     let alone = Stmt::If(condition, body);
     let Some(next) = after(source.tokens, at, Sign::Else) else {
@@ -238,7 +238,7 @@ fn braced<R: TypeReader>(
     into: &mut Unit,
 ) -> Result<Option<(NodeId, u32)>, NoMemory>
     requires { IsReady R.types source.now into.old at }
-    ensures { ReadsFrom source.now at into.old into.new is_statement result (braced within (known_names R.types source.now into.old) below line) }
+    ensures { ReadsFrom source.now at into.old into.new is_statement result (block_behind within (known_names R.types source.now into.old) below line) }
 {
     let (items, end) = items(source, at, within, below, into)?;
     block_of(source.tokens, end, within, &items, line, into)
@@ -297,7 +297,7 @@ fn labelled<R: TypeReader>(
     into: &mut Unit,
 ) -> Result<Option<(NodeId, u32)>, NoMemory>
     requires { IsReady R.types source.now into.old at }
-    ensures { ReadsFrom source.now at into.old into.new is_statement result (labelled (known_names R.types source.now into.old) depth (statements_within R.types source.now into.old depth)) }
+    ensures { ReadsFrom source.now at into.old into.new is_statement result (labels_and_statement (known_names R.types source.now into.old) depth (statements_within R.types source.now into.old depth)) }
 {
     let line = line_at(source.tokens, at);
     let (labels, next) = labels(source, at, depth, into)?;

@@ -16,8 +16,8 @@ use Rattle.pv_stmt_forms.specs.declared.forms.StatementForm.{StatementForm}
 use Rattle.pv_stmt_forms.specs.declared.forms.StatementForm.TheVariants as form
 use Rattle.pv_stmt_forms.specs.declared.forms.Within.{Within}
 use Rattle.pv_stmt_forms.specs.declared.forms.Within.TheVariants as within
-use Rattle.pv_stmt_forms.specs.Parts.{form_of, item_in, braced}
-use Rattle.pv_stmt_forms.specs.Statements.{declared, selection, loop, do_loop, for_loop, switch, item, block, labelled, switch_block_of, switch_block, simple, returned, statement_of, statement_by, Statements, SwitchBlocks, readers}
+use Rattle.pv_stmt_forms.specs.Parts.{form_of, item_in, block_behind}
+use Rattle.pv_stmt_forms.specs.Statements.{only_declaration, selection, loop, do_loop, for_loop, switch, item, block, labels_and_statement, switch_block_of, switch_block, simple, return_behind, statement_of, statement_by, Statements, SwitchBlocks, readers}
 
 -- ---- no depth
 
@@ -44,7 +44,7 @@ switch_deeper names (suc depth) ts h = rw sub-one refl
 -- ---- by the form of the first token
 
 abbrev pub by_form : Names → (below line : ℕ) → StatementForm → (all ts : List Token) → Piece
-by_form names below line form.Braces all ts = braced within.Block names below line ts
+by_form names below line form.Braces all ts = block_behind within.Block names below line ts
 by_form names below line form.If all ts = selection names below (readers names below Statements) line ts
 by_form names below line form.While all ts = loop names below (readers names below Statements) line ts
 by_form names below line form.Do all ts = do_loop names below (readers names below Statements) line ts
@@ -52,7 +52,7 @@ by_form names below line form.For all ts = for_loop names below (readers names b
 by_form names below line form.Switch all ts = switch names below (readers names below SwitchBlocks) line ts
 by_form names below line form.Break all ts = option_map (λ rest. (OfStatement (Break line), rest)) (after is_semicolon ts)
 by_form names below line form.Continue all ts = option_map (λ rest. (OfStatement (Continue line), rest)) (after is_semicolon ts)
-by_form names below line form.Return all ts = returned names below line ts
+by_form names below line form.Return all ts = return_behind names below line ts
 by_form names below line form.Plain all ts = simple names below line all
 
 formed : (names : Names) (below line : ℕ) (k : TokenKind) (all ts : List Token)
@@ -87,9 +87,9 @@ begun names depth ts t rest f h is e =
 -- ---- the block of a `switch`
 
 switch_if : (names : Names) (below line : ℕ) (k : TokenKind) (ts rest : List Token) → ◌≡◌ {A = Option (List Token)} (cond (is_open_brace k) (Some ts) None) (Some rest)
-    → braced within.Switch names below line rest ≡ switch_block_of names below (readers names below Statements) line k ts
+    → block_behind within.Switch names below line rest ≡ switch_block_of names below (readers names below Statements) line k ts
 unfolding switch_block_of
-switch_if names below line (kind.Mark mark.OpenBrace) ts rest e = ap (braced within.Switch names below line) (sym (some_is ts rest e))
+switch_if names below line (kind.Mark mark.OpenBrace) ts rest e = ap (block_behind within.Switch names below line) (sym (some_is ts rest e))
 switch_if names below line _ ts rest e = absurd cc
 
 switch_unless : (names : Names) (below line : ℕ) (k : TokenKind) (ts : List Token) → ◌≡◌ {A = Option (List Token)} (cond (is_open_brace k) (Some ts) None) None
@@ -99,7 +99,7 @@ switch_unless names below line (kind.Mark mark.OpenBrace) ts e = absurd cc
 switch_unless names below line _ ts e = refl
 
 switch_on : (names : Names) (below : ℕ) (ts rest : List Token) → after is_open_brace ts ≡ Some rest
-    → braced within.Switch names below (line_here ts) rest ≡ switch_block names below (readers names below Statements) ts
+    → block_behind within.Switch names below (line_here ts) rest ≡ switch_block names below (readers names below Statements) ts
 unfolding switch_block
 switch_on names below [] rest e = absurd cc
 switch_on names below (t ∷ ts) rest e = switch_if names below t.line t.kind ts rest e
@@ -110,7 +110,7 @@ switch_off names below [] e = refl
 switch_off names below (t ∷ ts) e = switch_unless names below t.line t.kind ts e
 
 pub switch_begun : (names : Names) (depth : ℕ) (ts rest : List Token) → 0 < depth → after is_open_brace ts ≡ Some rest
-    → braced within.Switch names (depth - 1) (line_here ts) rest ≡ readers names depth SwitchBlocks ts
+    → block_behind within.Switch names (depth - 1) (line_here ts) rest ≡ readers names depth SwitchBlocks ts
 switch_begun names depth ts rest h e = switch_on names (depth - 1) ts rest e ∙ switch_deeper names depth ts h
 
 pub switch_not : (names : Names) (depth : ℕ) (ts : List Token) → 0 < depth → after is_open_brace ts ≡ None → None ≡ readers names depth SwitchBlocks ts
@@ -118,7 +118,7 @@ switch_not names depth ts h e = switch_off names (depth - 1) ts e ∙ switch_dee
 
 -- ---- items
 
-pub item_declared : (w : Within) (names : Names) (depth : ℕ) (ts : List Token) → begins_type names ts ≡ true → declared (declaration names depth ts) ≡ item_in w names depth ts
+pub item_declared : (w : Within) (names : Names) (depth : ℕ) (ts : List Token) → begins_type names ts ≡ true → only_declaration (declaration names depth ts) ≡ item_in w names depth ts
 unfolding item
 item_declared w names depth ts e = rw e refl
 
@@ -127,6 +127,6 @@ unfolding item
 item_stated w names depth ts e is = rw (is, e) refl
 
 pub item_labelled : (w : Within) (names : Names) (depth : ℕ) (ts : List Token) → begins_type names ts ≡ false → w ≡ within.Switch
-    → labelled names depth (readers names depth Statements) ts ≡ item_in w names depth ts
+    → labels_and_statement names depth (readers names depth Statements) ts ≡ item_in w names depth ts
 unfolding item
 item_labelled w names depth ts e is = rw (is, e) refl

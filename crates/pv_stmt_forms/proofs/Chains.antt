@@ -20,13 +20,13 @@ use Rattle.pv_expr_forms.specs.Reader.{Read, is_open, is_close, is_colon, after,
 use Rattle.pv_expr_forms.specs.Answers.{Answers as ExpressionAnswers}
 use Rattle.pv_decl_forms.specs.Answers.{Answers}
 use Rattle.pv_decl_forms.specs.Rows.{MayBeAnswered}
-use Rattle.pv_decl_forms.specs.Pieces.{Piece, is_semicolon, is_close_brace, optional, row}
+use Rattle.pv_decl_forms.specs.Pieces.{Piece, is_semicolon, is_close_brace, part_if_any, row}
 use Rattle.pv_decl_forms.proofs.Answered.{got, got_none}
 use Rattle.pv_decl_forms.proofs.Constants.{tree_is}
 use Rattle.pv_decl_forms.proofs.Loops.{at_start}
 use Rattle.pv_stmt_forms.specs.declared.forms.LabelWord.TheVariants as label_word
 use Rattle.pv_stmt_forms.specs.Parts.{label_word_of, case_label, PartAnswers, part_seen, IsPartThere}
-use Rattle.pv_stmt_forms.specs.Statements.{is_else, is_while, expression, before, optional_before, condition, expression_before, declared, chosen, selection, loop, do_end, do_loop, switch, block_end, with_labels, labelled, simple, returned, label_of, label}
+use Rattle.pv_stmt_forms.specs.Statements.{is_else, is_while, expression, before, optional_before, condition, expression_before, only_declaration, else_part, selection, loop, do_end, do_loop, switch, block_end, with_labels, labels_and_statement, simple, return_behind, label_of, label}
 
 -- ---- answers
 
@@ -122,11 +122,11 @@ module _ (names : Names) (depth : ℕ) (ts : List Token) where
 -- ---- parts that may be left out
 
 module _ (u : Tables) (tokens : List Token) (at : ℕ) (place : at ≤ length tokens) (answer : Option (NodeId × ℕ)) (reading : Piece) (a : Answers u is_expression tokens answer reading) where
-  pub optional_some : (n : NodeId) (next : ℕ) → answer ≡ Some (n, next) → MayBeAnswered u is_expression tokens (Some n) next (optional (drop at tokens) reading)
-  optional_some n next e = let g = got u is_expression tokens answer reading n next a e in record { is = ap (optional (drop at tokens)) g.0; there = g.1; place = g.2 }
+  pub optional_some : (n : NodeId) (next : ℕ) → answer ≡ Some (n, next) → MayBeAnswered u is_expression tokens (Some n) next (part_if_any (drop at tokens) reading)
+  optional_some n next e = let g = got u is_expression tokens answer reading n next a e in record { is = ap (part_if_any (drop at tokens)) g.0; there = g.1; place = g.2 }
 
-  pub optional_none : answer ≡ None → MayBeAnswered u is_expression tokens None at (optional (drop at tokens) reading)
-  optional_none e = record { is = ap (optional (drop at tokens)) (got_none u is_expression tokens answer reading a e); there = tt; place = place }
+  pub optional_none : answer ≡ None → MayBeAnswered u is_expression tokens None at (part_if_any (drop at tokens) reading)
+  optional_none e = record { is = ap (part_if_any (drop at tokens)) (got_none u is_expression tokens answer reading a e); there = tt; place = place }
 
 before_joined : (test : TokenKind → Bool) (x y : OptionalTree × List Token) (c : Option (List Token)) → x ≡ y → after test x.1 ≡ c
     → option_map (λ rest. let z : OptionalTree × List Token = (x.0, rest) in z) c ≡ optional_before test y
@@ -134,10 +134,10 @@ unfolding optional_before
 before_joined test x y c e k = rw (← e, k) refl
 
 module _ (u : Tables) (tokens : List Token) (names : Names) (depth : ℕ) (test : TokenKind → Bool) (ts : List Token) (o : Option NodeId) (end : ℕ)
-    (a : MayBeAnswered u is_expression tokens o end (optional ts (expression names depth 1 ts))) where
+    (a : MayBeAnswered u is_expression tokens o end (part_if_any ts (expression names depth 1 ts))) where
   by_optional : (c : Option (List Token)) → after test (drop end tokens) ≡ c → option_map (λ rest. let y : OptionalTree × List Token = (optional_at u.forest o, rest) in y) c ≡ expression_before names depth test ts
   unfolding expression_before
-  by_optional c k = before_joined test (optional_at u.forest o, drop end tokens) (optional ts (expression names depth 1 ts)) c a.is k
+  by_optional c k = before_joined test (optional_at u.forest o, drop end tokens) (part_if_any ts (expression names depth 1 ts)) c a.is k
 
   pub part_none : after test (drop end tokens) ≡ None → PartAnswers u tokens None (expression_before names depth test ts)
   part_none k = record { is = by_optional None k; there = tt }
@@ -167,26 +167,26 @@ module _ (names : Names) (depth line : ℕ) (ts : List Token) (u : Tables) (toke
   unfolding simple
   simple_some o next e = rw (part_got u tokens answer _ o next a e) refl
 
-  pub returned_none : answer ≡ None → None ≡ returned names depth line ts
-  unfolding returned
+  pub returned_none : answer ≡ None → None ≡ return_behind names depth line ts
+  unfolding return_behind
   returned_none e = rw (part_lost u tokens answer _ a e) refl
 
-  pub returned_some : (o : Option NodeId) (next : ℕ) → answer ≡ Some (o, next) → Some (OfStatement (Return line (optional_at u.forest o)), drop next tokens) ≡ returned names depth line ts
-  unfolding returned
+  pub returned_some : (o : Option NodeId) (next : ℕ) → answer ≡ Some (o, next) → Some (OfStatement (Return line (optional_at u.forest o)), drop next tokens) ≡ return_behind names depth line ts
+  unfolding return_behind
   returned_some o next e = rw (part_got u tokens answer _ o next a e) refl
 
 -- ---- declarations
 
-pub declared_none : (reading : Piece) → reading ≡ None → None ≡ declared reading
-unfolding declared
+pub declared_none : (reading : Piece) → reading ≡ None → None ≡ only_declaration reading
+unfolding only_declaration
 declared_none reading e = rw e refl
 
-pub declared_other : (reading : Piece) (x : Tree × List Token) → reading ≡ Some x → is_declaration_tree (as_declaration x.0) ≡ false → None ≡ declared reading
-unfolding declared
+pub declared_other : (reading : Piece) (x : Tree × List Token) → reading ≡ Some x → is_declaration_tree (as_declaration x.0) ≡ false → None ≡ only_declaration reading
+unfolding only_declaration
 declared_other reading x e k = rw (e, k) refl
 
-pub declared_so : (reading : Piece) (x : Tree × List Token) → reading ≡ Some x → is_declaration_tree (as_declaration x.0) ≡ true → Some x ≡ declared reading
-unfolding declared
+pub declared_so : (reading : Piece) (x : Tree × List Token) → reading ≡ Some x → is_declaration_tree (as_declaration x.0) ≡ true → Some x ≡ only_declaration reading
+unfolding only_declaration
 declared_so reading x e k = rw (e, k) refl
 
 -- ---- what stands behind the body of a `do`
@@ -258,24 +258,24 @@ module _ (names : Names) (depth : ℕ) (ts : List Token) (t : Token) (rest : Lis
 
 -- labels that are read, and a statement behind them
 module _ (names : Names) (depth : ℕ) (r : List Token → Piece) (ts : List Token) (x : Trees × List Token) (e : x ≡ row (label names depth) NoTrees ts) where
-  by_labels : (o : Piece) → o ≡ with_labels r (line_here ts) x → o ≡ labelled names depth r ts
-  unfolding labelled
+  by_labels : (o : Piece) → o ≡ with_labels r (line_here ts) x → o ≡ labels_and_statement names depth r ts
+  unfolding labels_and_statement
   by_labels o h = h ∙ ap (with_labels r (line_here ts)) e
 
   neither : {A : Type 0} (b : Bool) → ◌≡◌ {A = Option A} None (cond b None None)
   neither true = refl
   neither false = refl
 
-  pub labelled_none : r x.1 ≡ None → None ≡ labelled names depth r ts
+  pub labelled_none : r x.1 ≡ None → None ≡ labels_and_statement names depth r ts
   unfolding with_labels
   labelled_none h = by_labels None (rw h (neither (some x.0)))
 
-  pub labelled_bare : (y : Tree × List Token) → some x.0 ≡ false → r x.1 ≡ Some y → Some y ≡ labelled names depth r ts
+  pub labelled_bare : (y : Tree × List Token) → some x.0 ≡ false → r x.1 ≡ Some y → Some y ≡ labels_and_statement names depth r ts
   unfolding with_labels
   labelled_bare y b h = by_labels (Some y) (rw (b, h) refl)
 
   pub labelled_so : (y : Tree × List Token) → some x.0 ≡ true → r x.1 ≡ Some y
-      → Some (OfStatement (Labelled (line_here ts) x.0 (as_statement y.0)), y.1) ≡ labelled names depth r ts
+      → Some (OfStatement (Labelled (line_here ts) x.0 (as_statement y.0)), y.1) ≡ labels_and_statement names depth r ts
   unfolding with_labels
   labelled_so y b h = by_labels _ (rw (b, h) refl)
 
@@ -299,7 +299,7 @@ module _ (names : Names) (below line : ℕ) (r : List Token → Piece) (ts : Lis
     unfolding selection
     selection_none h = rw (e, h) refl
 
-    pub selection_so : (x : Tree × List Token) → r a.1 ≡ Some x → chosen r line a.0 x.0 x.1 ≡ selection names below r line ts
+    pub selection_so : (x : Tree × List Token) → r a.1 ≡ Some x → else_part r line a.0 x.0 x.1 ≡ selection names below r line ts
     unfolding selection
     selection_so x h = rw (e, h) refl
 
@@ -337,22 +337,22 @@ module _ (r : List Token → Piece) (line : ℕ) (a body : Tree) (ts : List Toke
   abbrev alone : Piece
   alone = Some (OfStatement (If line (as_expression a) (as_statement body)), ts)
 
-  pub chosen_plain : after is_else ts ≡ None → alone ≡ chosen r line a body ts
-  unfolding chosen
+  pub chosen_plain : after is_else ts ≡ None → alone ≡ else_part r line a body ts
+  unfolding else_part
   chosen_plain e = rw e (both_same (ends_open (as_statement body)) alone)
 
-  pub chosen_open : ends_open (as_statement body) ≡ true → alone ≡ chosen r line a body ts
-  unfolding chosen
+  pub chosen_open : ends_open (as_statement body) ≡ true → alone ≡ else_part r line a body ts
+  unfolding else_part
   chosen_open o = rw o refl
 
   module _ (rest : List Token) (e : after is_else ts ≡ Some rest) where
-    pub chosen_unread : r rest ≡ None → alone ≡ chosen r line a body ts
-    unfolding chosen
+    pub chosen_unread : r rest ≡ None → alone ≡ else_part r line a body ts
+    unfolding else_part
     chosen_unread h = rw (e, h) (both_same (ends_open (as_statement body)) alone)
 
     pub chosen_both : (x : Tree × List Token) → ends_open (as_statement body) ≡ false → r rest ≡ Some x
-        → Some (OfStatement (IfElse line (as_expression a) (as_statement body) (as_statement x.0)), x.1) ≡ chosen r line a body ts
-    unfolding chosen
+        → Some (OfStatement (IfElse line (as_expression a) (as_statement body) (as_statement x.0)), x.1) ≡ else_part r line a body ts
+    unfolding else_part
     chosen_both x o h = rw (o, e, h) refl
 
 -- an `if` that is made once the unit has grown

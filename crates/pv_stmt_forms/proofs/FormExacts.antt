@@ -7,7 +7,7 @@ use Rattle.pv_token.specs.declared.words.Word.TheVariants as word
 use Rattle.pv_token.specs.declared.marks.Mark.TheVariants as mark
 use Rattle.pv_tree.specs.Syntax.{ExpressionTree, DeclarationTree, Declaration, StatementTree, ExpressionStatement, If, IfElse, While, DoWhile, For, ForDeclaration, Switch, Break, Continue, Return, Tree, OfExpression, OfDeclaration, OfStatement, OptionalTree, Absent, Present}
 use Rattle.pv_tree.specs.Depths.{expression_depth, declaration_depth, statement_depth, optional_depth}
-use Rattle.pv_tree.specs.Spelling.{ended, in_parens, expression_tokens, declaration_tokens, statement_tokens, optional_tokens}
+use Rattle.pv_tree.specs.Spelling.{with_semicolon, in_parens, expression_tokens, declaration_tokens, statement_tokens, optional_tokens}
 use Rattle.pv_tree.specs.Grammar.{line_here}
 use Rattle.pv_tree.specs.Spells.{Names, Fits}
 use Rattle.pv_tree.specs.Tables.{as_statement}
@@ -24,7 +24,7 @@ use Rattle.pv_decl_forms.proofs.Marks.{after_taken}
 use Rattle.pv_decl_forms.proofs.Goods.{known_behind}
 use Rattle.pv_decl_forms.proofs.Wholes.{on_line}
 use Rattle.pv_decl_forms.proofs.Declarings.{declaration_exact}
-use Rattle.pv_stmt_forms.specs.Statements.{Statements, is_else, is_while, before, expression_before, declared, second, chosen, selection, loop, do_end, do_loop, for_rest, for_parts, for_loop, switch, simple, returned, statement_of, statement_by}
+use Rattle.pv_stmt_forms.specs.Statements.{Statements, is_else, is_while, before, expression_before, only_declaration, second, else_part, selection, loop, do_end, do_loop, for_rest, for_parts, for_loop, switch, simple, return_behind, statement_of, statement_by}
 use Rattle.pv_stmt_forms.proofs.FormTokens.{NoElse, else_none, no_else_on}
 use Rattle.pv_stmt_forms.proofs.PartGoods.{IsStated}
 use Rattle.pv_stmt_forms.proofs.FormStarts.{optional_opens, expression_begins, plain_statement, declaration_begins}
@@ -52,12 +52,12 @@ pub record Parted (front cs ss bs : List TokenKind) (here rest : List Token) : T
   pub body_takes : Takes bs inner rest
 
 pub parted_at : (front cs ss bs : List TokenKind) (here rest : List Token)
-    → Takes (((front ++ (ended cs ++ ss)) ++ kind.Mark mark.CloseParen ∷ []) ++ bs) here rest → Parted front cs ss bs here rest
+    → Takes (((front ++ (with_semicolon cs ++ ss)) ++ kind.Mark mark.CloseParen ∷ []) ++ bs) here rest → Parted front cs ss bs here rest
 parted_at front cs ss bs here rest h =
-    let p = takes_parts ((front ++ (ended cs ++ ss)) ++ kind.Mark mark.CloseParen ∷ []) bs here rest h in
-    let q = takes_parts (front ++ (ended cs ++ ss)) (kind.Mark mark.CloseParen ∷ []) here p.0 p.1 in
-    let r = takes_parts front (ended cs ++ ss) here q.0 q.1 in
-    let s = takes_parts (ended cs) ss r.0 q.0 r.2 in
+    let p = takes_parts ((front ++ (with_semicolon cs ++ ss)) ++ kind.Mark mark.CloseParen ∷ []) bs here rest h in
+    let q = takes_parts (front ++ (with_semicolon cs ++ ss)) (kind.Mark mark.CloseParen ∷ []) here p.0 p.1 in
+    let r = takes_parts front (with_semicolon cs ++ ss) here q.0 q.1 in
+    let s = takes_parts (with_semicolon cs) ss r.0 q.0 r.2 in
     record {
       second = r.0;
       third = s.0;
@@ -103,7 +103,7 @@ module _ (names : Names) (K : List Token → Type 0) (spelled : IsSpelled names 
       on_line (λ l. OfStatement (Continue l)) line t.line rest _ e (by_kind (kind.Word word.Continue) t ts _ h.0 (rw c refl))
 
   semicolon_part : (o : OptionalTree) (here rest : List Token) → OptionalFits names.is_type (Fits names) Expressions o here → optional_depth o ≤ deep
-      → Takes (ended (optional_tokens o)) here rest → expression_before names deep is_semicolon here ≡ Some (o, rest)
+      → Takes (with_semicolon (optional_tokens o)) here rest → expression_before names deep is_semicolon here ≡ Some (o, rest)
   semicolon_part o here rest f d h = part_exact names deep is_semicolon (kind.Mark mark.Semicolon) refl refl (omega arith) o here rest f d h
 
   close_part : (o : OptionalTree) (here rest : List Token) → OptionalFits names.is_type (Fits names) Expressions o here → optional_depth o ≤ deep
@@ -112,23 +112,23 @@ module _ (names : Names) (K : List Token → Type 0) (spelled : IsSpelled names 
 
   pub return_exact : (line : ℕ) (o : OptionalTree) (here rest : List Token) → line ≡ line_here here
       → OptionalFits names.is_type (Fits names) Expressions o (drop 1 here) → optional_depth o ≤ deep
-      → Takes (kind.Word word.Return ∷ ended (optional_tokens o)) here rest
+      → Takes (kind.Word word.Return ∷ with_semicolon (optional_tokens o)) here rest
       → statement_by names deep read switched here ≡ Some (OfStatement (Return line o), rest)
-  unfolding statement_of returned
+  unfolding statement_of return_behind
   return_exact line o [] rest e f d h = absurd h
   return_exact line o (t ∷ ts) rest e f d h =
       let c = semicolon_part o ts rest f d h.1 in
       on_line (λ l. OfStatement (Return l o)) line t.line rest _ e (by_kind (kind.Word word.Return) t ts _ h.0 (rw c refl))
 
   simple_read : (o : OptionalTree) (t : Token) (ts rest : List Token) → OptionalFits names.is_type (Fits names) Expressions o (t ∷ ts) → optional_depth o ≤ deep
-      → Takes (ended (optional_tokens o)) (t ∷ ts) rest
+      → Takes (with_semicolon (optional_tokens o)) (t ∷ ts) rest
       → simple names deep t.line (t ∷ ts) ≡ Some (OfStatement (ExpressionStatement t.line o), rest)
   unfolding simple
   simple_read o t ts rest f d h = rw (semicolon_part o (t ∷ ts) rest f d h) refl
 
   pub simple_exact : (line : ℕ) (o : OptionalTree) (here rest : List Token) → line ≡ line_here here
       → OptionalFits names.is_type (Fits names) Expressions o here → optional_depth o ≤ deep
-      → Takes (ended (optional_tokens o)) here rest
+      → Takes (with_semicolon (optional_tokens o)) here rest
       → statement_by names deep read switched here ≡ Some (OfStatement (ExpressionStatement line o), rest)
   unfolding statement_of
   simple_exact line Absent [] rest e f d h = absurd h
@@ -182,7 +182,7 @@ module _ (names : Names) (K : List Token → Type 0) (spelled : IsSpelled names 
       → expression_depth a ≤ deep → statement_depth body ≤ deep
       → Takes (kind.Word word.If ∷ (in_parens (expression_tokens a) ++ statement_tokens body)) here rest → NoElse rest
       → statement_by names deep read switched here ≡ Some (OfStatement (If line a body), rest)
-  unfolding statement_of selection chosen
+  unfolding statement_of selection else_part
   if_exact line a body [] rest known e f w fits d l h o = absurd h
   if_exact line a body (t ∷ ts) rest known e f w fits d l h o =
       let g = governs names K spelled deep a (statement_tokens body) ts rest (spelled.tail t ts known) f d h.1 in
@@ -198,7 +198,7 @@ module _ (names : Names) (K : List Token → Type 0) (spelled : IsSpelled names 
       → Takes (kind.Word word.If ∷ (in_parens (expression_tokens a) ++ (statement_tokens body ++ (kind.Word word.Else ∷ statement_tokens other)))) here rest
       → (ends_open other ≡ true → NoElse rest)
       → statement_by names deep read switched here ≡ Some (OfStatement (IfElse line a body other), rest)
-  unfolding statement_of selection chosen
+  unfolding statement_of selection else_part
   else_exact line a body other [] rest known e f w shut fits v others d l m h o = absurd h
   else_exact line a body other (t ∷ ts) rest known e f w shut fits v others d l m h o =
       let bs = statement_tokens body in
@@ -216,13 +216,13 @@ module _ (names : Names) (K : List Token → Type 0) (spelled : IsSpelled names 
   pub do_exact : (line : ℕ) (body : StatementTree) (a : ExpressionTree) (here rest : List Token) → K here → line ≡ line_here here
       → is_whole_statement body ≡ true → StatementFits names.is_type (Fits names) body (drop 1 here) → Fits names a (drop 2 (past (statement_tokens body) (drop 1 here)))
       → statement_depth body ≤ deep → expression_depth a ≤ deep
-      → Takes (kind.Word word.Do ∷ (statement_tokens body ++ (kind.Word word.While ∷ ended (in_parens (expression_tokens a))))) here rest
+      → Takes (kind.Word word.Do ∷ (statement_tokens body ++ (kind.Word word.While ∷ with_semicolon (in_parens (expression_tokens a))))) here rest
       → statement_by names deep read switched here ≡ Some (OfStatement (DoWhile line body a), rest)
   unfolding statement_of do_loop do_end before
   do_exact line body a [] rest known e w fits f l d h = absurd h
   do_exact line body a (t ∷ ts) rest known e w fits f l d h =
       let bs = statement_tokens body in
-      let p = parts_at bs (kind.Word word.While) (ended (in_parens (expression_tokens a))) ts rest h.1 in
+      let p = parts_at bs (kind.Word word.While) (with_semicolon (in_parens (expression_tokens a))) ts rest h.1 in
       let b = x.exact body ts (p.token ∷ p.after) (spelled.tail t ts known) w fits l p.left (λ open'. no_else_on (kind.Word word.While) p.token p.after p.kind refl) in
       let known' = spelled.tail p.token p.after (known_behind names K spelled bs ts (p.token ∷ p.after) p.left (spelled.tail t ts known)) in
       let at : drop 2 (past bs ts) ≡ drop 1 p.after = ap (drop 2) (takes_rest bs ts (p.token ∷ p.after) p.left) in
@@ -260,7 +260,7 @@ module _ (names : Names) (K : List Token → Type 0) (spelled : IsSpelled names 
       → is_whole_statement body ≡ true
       → StatementFits names.is_type (Fits names) body (drop 1 (past (optional_tokens step) (drop 1 (past (optional_tokens second) (drop 1 (past (optional_tokens first) here))))))
       → optional_depth first ≤ deep → optional_depth second ≤ deep → optional_depth step ≤ deep → statement_depth body ≤ deep
-      → Takes (((ended (optional_tokens first) ++ (ended (optional_tokens second) ++ optional_tokens step)) ++ kind.Mark mark.CloseParen ∷ []) ++ statement_tokens body) here rest
+      → Takes (((with_semicolon (optional_tokens first) ++ (with_semicolon (optional_tokens second) ++ optional_tokens step)) ++ kind.Mark mark.CloseParen ∷ []) ++ statement_tokens body) here rest
       → (ends_open body ≡ true → NoElse rest)
       → for_parts names deep read line here ≡ Some (OfStatement (For line first second step body), rest)
   unfolding for_parts
@@ -268,11 +268,11 @@ module _ (names : Names) (K : List Token → Type 0) (spelled : IsSpelled names 
       let fs = optional_tokens first in
       let cs = optional_tokens second in
       let ss = optional_tokens step in
-      let q = parted_at (ended fs) cs ss (statement_tokens body) here rest h in
+      let q = parted_at (with_semicolon fs) cs ss (statement_tokens body) here rest h in
       let at1 = behind_part fs (kind.Mark mark.Semicolon) here q.second q.front_takes in
       let at2 = ap (λ (y : List Token). drop 1 (past cs y)) at1 ∙ behind_part cs (kind.Mark mark.Semicolon) q.second q.third q.condition_takes in
       let at3 = ap (λ (y : List Token). drop 1 (past ss y)) at2 ∙ behind_part ss (kind.Mark mark.CloseParen) q.third q.inner q.step_takes in
-      let known1 = known_behind names K spelled (ended fs) here q.second q.front_takes known in
+      let known1 = known_behind names K spelled (with_semicolon fs) here q.second q.front_takes known in
       let known2 = known_behind names K spelled (cs ++ kind.Mark mark.Semicolon ∷ []) q.second q.third q.condition_takes known1 in
       let known3 = known_behind names K spelled (ss ++ kind.Mark mark.CloseParen ∷ []) q.third q.inner q.step_takes known2 in
       let none = (optional_opens names first here q.second f q.front_takes).no_type in
@@ -296,8 +296,8 @@ module _ (names : Names) (K : List Token → Type 0) (spelled : IsSpelled names 
 
   pub declared_exact : (d : DeclarationTree) (here rest : List Token) → K here → is_declaration_tree d ≡ true → DeclarationFits names.is_type (Fits names) d here
       → declaration_depth d ≤ deep → Takes (declaration_tokens d) here rest
-      → declared (declaration names deep here) ≡ Some (OfDeclaration d, rest)
-  unfolding declared
+      → only_declaration (declaration names deep here) ≡ Some (OfDeclaration d, rest)
+  unfolding only_declaration
   declared_exact (Declaration line specs parts) here rest known s f d h =
       rw (declaration_exact names K spelled deep (Declaration line specs parts) here rest known refl f d h) refl
   declared_exact _ here rest known s f d h = absurd cc
@@ -309,7 +309,7 @@ module _ (names : Names) (K : List Token → Type 0) (spelled : IsSpelled names 
       → is_whole_statement body ≡ true
       → StatementFits names.is_type (Fits names) body (drop 1 (past (optional_tokens step) (drop 1 (past (optional_tokens second) (past (declaration_tokens first) here)))))
       → declaration_depth first ≤ deep → optional_depth second ≤ deep → optional_depth step ≤ deep → statement_depth body ≤ deep
-      → Takes (((declaration_tokens first ++ (ended (optional_tokens second) ++ optional_tokens step)) ++ kind.Mark mark.CloseParen ∷ []) ++ statement_tokens body) here rest
+      → Takes (((declaration_tokens first ++ (with_semicolon (optional_tokens second) ++ optional_tokens step)) ++ kind.Mark mark.CloseParen ∷ []) ++ statement_tokens body) here rest
       → (ends_open body ≡ true → NoElse rest)
       → for_parts names deep read line here ≡ Some (OfStatement (ForDeclaration line first second step body), rest)
   unfolding for_parts

@@ -7,7 +7,7 @@ use Rattle.pv_token.specs.declared.words.Word.TheVariants as word
 use Rattle.pv_token.specs.declared.marks.Mark.TheVariants as mark
 use Rattle.pv_tree.specs.Syntax.{ExpressionStatement, If, IfElse, While, DoWhile, For, ForDeclaration, Switch, Break, Continue, Return, Tree, OfStatement, OptionalTree}
 use Rattle.pv_tree.specs.Depths.{expression_depth}
-use Rattle.pv_tree.specs.Spelling.{ended, in_parens, expression_tokens, declaration_tokens, statement_tokens, optional_tokens}
+use Rattle.pv_tree.specs.Spelling.{with_semicolon, in_parens, expression_tokens, declaration_tokens, statement_tokens, optional_tokens}
 use Rattle.pv_tree.specs.Spells.{Names, begins_type, Fits}
 use Rattle.pv_tree.specs.Tables.{as_expression, as_declaration, as_statement}
 use Rattle.pv_tree.specs.Places.{Expressions, ends_open}
@@ -21,7 +21,7 @@ use Rattle.pv_decl_forms.specs.Reader.{declaration}
 use Rattle.pv_decl_forms.proofs.Marks.{semicolon_taken}
 use Rattle.pv_decl_forms.proofs.Steps.{piece_is}
 use Rattle.pv_decl_forms.proofs.Goods.{known_behind}
-use Rattle.pv_stmt_forms.specs.Statements.{Form, Statements, SwitchBlocks, is_else, is_while, before, condition, expression_before, declared, second, chosen, selection, loop, do_end, do_loop, for_rest, for_parts, for_loop, switch, simple, returned}
+use Rattle.pv_stmt_forms.specs.Statements.{Form, Statements, SwitchBlocks, is_else, is_while, before, condition, expression_before, only_declaration, second, else_part, selection, loop, do_end, do_loop, for_rest, for_parts, for_loop, switch, simple, return_behind}
 use Rattle.pv_stmt_forms.proofs.FormTokens.{else_taken, while_taken, open_taken, before_is}
 use Rattle.pv_stmt_forms.proofs.PartGoods.{Stated, stated_at, IsStated, behind_one, condition_good, parted_good, declared_good, for_rest_good}
 
@@ -101,8 +101,8 @@ module _ (names : Names) (K : List Token → Type 0) (spelled : IsSpelled names 
       (record { is = refl; stands = refl; fits = refl; shallow = omega arith; spells = omega arith; takes = (k, semicolon_taken ts m.0 m.1) })
 
   pub return_good : (t : Token) (ts : List Token) (a : Tree) (rest : List Token) → K ts → t.kind ≡ kind.Word word.Return
-      → returned names deep t.line ts ≡ Some (a, rest) → IsGood (t ∷ ts) a rest
-  unfolding returned
+      → return_behind names deep t.line ts ≡ Some (a, rest) → IsGood (t ∷ ts) a rest
+  unfolding return_behind
   return_good t ts a rest known k e =
       let m = mapped (λ (x : OptionalTree × List Token). let z : Tree × List Token = (OfStatement (Return t.line x.0), x.1) in z) (expression_before names deep is_semicolon ts) (a, rest) e in
       let x = m.0 in
@@ -176,11 +176,11 @@ module _ (names : Names) (K : List Token → Type 0) (spelled : IsSpelled names 
 
     pub selection_good : (t : Token) (ts : List Token) (a : Tree) (rest : List Token) → K ts → t.kind ≡ kind.Word word.If
         → selection names deep read t.line ts ≡ Some (a, rest) → IsGood (t ∷ ts) a rest
-    unfolding selection chosen
+    unfolding selection else_part
     selection_good t ts a rest known k e =
-        let f = followed (λ (c : Tree × List Token). option_and_then (λ (x : Tree × List Token). chosen read t.line c.0 x.0 x.1) (read c.1)) (condition names deep ts) (a, rest) e in
+        let f = followed (λ (c : Tree × List Token). option_and_then (λ (x : Tree × List Token). else_part read t.line c.0 x.0 x.1) (read c.1)) (condition names deep ts) (a, rest) e in
         let c = f.0 in
-        let h = followed (λ (x : Tree × List Token). chosen read t.line c.0 x.0 x.1) (read c.1) (a, rest) f.2 in
+        let h = followed (λ (x : Tree × List Token). else_part read t.line c.0 x.0 x.1) (read c.1) (a, rest) f.2 in
         let x = h.0 in
         chosen_by (ends_open (as_statement x.0)) t ts c.0 x.0 x.1 a rest k (governed_good Statements read s ts c x known f.1 h.1) refl h.2
 
@@ -228,8 +228,8 @@ module _ (names : Names) (K : List Token → Type 0) (spelled : IsSpelled names 
           spells = omega arith;
           takes = (
             k,
-            takes_then xs (kind.Word word.While ∷ ended cs) ts x.1 rest b.takes
-                (takes_then (kind.Word word.While ∷ []) (ended cs) x.1 f.0 rest w (takes_then cs (kind.Mark mark.Semicolon ∷ []) f.0 c.1 rest g.takes end)),
+            takes_then xs (kind.Word word.While ∷ with_semicolon cs) ts x.1 rest b.takes
+                (takes_then (kind.Word word.While ∷ []) (with_semicolon cs) x.1 f.0 rest w (takes_then cs (kind.Mark mark.Semicolon ∷ []) f.0 c.1 rest g.takes end)),
           );
         })
 
@@ -256,7 +256,7 @@ module _ (names : Names) (K : List Token → Type 0) (spelled : IsSpelled names 
         let ps = optional_tokens l.step in
         let at : drop 1 ts ≡ mid = takes_rest (kind.Mark mark.OpenParen ∷ []) ts mid o in
         let at' : drop 1 (past fs (drop 1 ts)) ≡ f.1 = ap (λ (y : List Token). drop 1 (past fs y)) at ∙ g.at in
-        let run = l.takes (ended fs) mid g.takes in
+        let run = l.takes (with_semicolon fs) mid g.takes in
         subst (λ (y : Tree). IsGood (t ∷ ts) y rest) l.is (record {
           is = refl;
           stands = refl;
@@ -270,15 +270,15 @@ module _ (names : Names) (K : List Token → Type 0) (spelled : IsSpelled names 
           );
           shallow = omega (arith, g.shallow, l.shallow);
           spells = omega arith;
-          takes = (k, takes_then (kind.Mark mark.OpenParen ∷ []) (((ended fs ++ (ended cs ++ ps)) ++ kind.Mark mark.CloseParen ∷ []) ++ statement_tokens (as_statement l.body)) ts mid rest o run);
+          takes = (k, takes_then (kind.Mark mark.OpenParen ∷ []) (((with_semicolon fs ++ (with_semicolon cs ++ ps)) ++ kind.Mark mark.CloseParen ∷ []) ++ statement_tokens (as_statement l.body)) ts mid rest o run);
         })
 
     for_declaration_good : (t : Token) (ts mid : List Token) (a : Tree) (rest : List Token) → K mid → t.kind ≡ kind.Word word.For
         → Takes (kind.Mark mark.OpenParen ∷ []) ts mid
-        → option_and_then (λ d. for_rest names deep read (λ c p x. OfStatement (ForDeclaration t.line (as_declaration d.0) c p (as_statement x))) d.1) (declared (declaration names deep mid)) ≡ Some (a, rest)
+        → option_and_then (λ d. for_rest names deep read (λ c p x. OfStatement (ForDeclaration t.line (as_declaration d.0) c p (as_statement x))) d.1) (only_declaration (declaration names deep mid)) ≡ Some (a, rest)
         → IsGood (t ∷ ts) a rest
     for_declaration_good t ts mid a rest known k o e =
-        let h = followed (λ (d : Tree × List Token). for_rest names deep read (λ c p x. OfStatement (ForDeclaration t.line (as_declaration d.0) c p (as_statement x))) d.1) (declared (declaration names deep mid)) (a, rest) e in
+        let h = followed (λ (d : Tree × List Token). for_rest names deep read (λ c p x. OfStatement (ForDeclaration t.line (as_declaration d.0) c p (as_statement x))) d.1) (only_declaration (declaration names deep mid)) (a, rest) e in
         let d = h.0 in
         let g = declared_good names K spelled deep mid d.0 d.1 known h.1 in
         let ds = declaration_tokens (as_declaration d.0) in
@@ -302,13 +302,13 @@ module _ (names : Names) (K : List Token → Type 0) (spelled : IsSpelled names 
           );
           shallow = omega (arith, g.shallow, l.shallow);
           spells = omega arith;
-          takes = (k, takes_then (kind.Mark mark.OpenParen ∷ []) (((ds ++ (ended cs ++ ps)) ++ kind.Mark mark.CloseParen ∷ []) ++ statement_tokens (as_statement l.body)) ts mid rest o run);
+          takes = (k, takes_then (kind.Mark mark.OpenParen ∷ []) (((ds ++ (with_semicolon cs ++ ps)) ++ kind.Mark mark.CloseParen ∷ []) ++ statement_tokens (as_statement l.body)) ts mid rest o run);
         })
 
     for_parts_by : (type : Bool) (t : Token) (ts mid : List Token) (a : Tree) (rest : List Token) → K mid → t.kind ≡ kind.Word word.For
         → Takes (kind.Mark mark.OpenParen ∷ []) ts mid
         → cond {A = Piece} type
-        (option_and_then (λ d. for_rest names deep read (λ c p x. OfStatement (ForDeclaration t.line (as_declaration d.0) c p (as_statement x))) d.1) (declared (declaration names deep mid)))
+        (option_and_then (λ d. for_rest names deep read (λ c p x. OfStatement (ForDeclaration t.line (as_declaration d.0) c p (as_statement x))) d.1) (only_declaration (declaration names deep mid)))
         (option_and_then (λ f. for_rest names deep read (λ c p x. OfStatement (For t.line f.0 c p (as_statement x))) f.1) (expression_before names deep is_semicolon mid)) ≡ Some (a, rest)
         → IsGood (t ∷ ts) a rest
     for_parts_by true t ts mid a rest known k o e = for_declaration_good t ts mid a rest known k o e

@@ -8,11 +8,11 @@ use Rattle.pv_token.specs.declared.marks.Mark.TheVariants as mark
 use Rattle.pv_tree.specs.Syntax.{ExpressionTree, Binary, DeclarationTree, Declaration, StatementTree, Block, ExpressionStatement, If, IfElse, While, DoWhile, For, ForDeclaration, Switch, Case, Default, Break, Continue, Return, OfExpression, OfStatement, Trees, NoTrees, Then, OptionalTree, Absent, Present}
 use Rattle.pv_tree.specs.Depths.{expression_depth}
 use Rattle.pv_tree.specs.Levels.{rank}
-use Rattle.pv_tree.specs.Spelling.{ended, in_parens, expression_tokens, declaration_tokens, statement_tokens, trees_tokens, listed_tokens, optional_tokens}
+use Rattle.pv_tree.specs.Spelling.{with_semicolon, in_parens, expression_tokens, declaration_tokens, statement_tokens, trees_tokens, listed_tokens, optional_tokens}
 use Rattle.pv_tree.specs.Spells.{Names, kind_begins_type, begins_type, Fits}
 use Rattle.pv_tree.specs.Places.{Labels, Expressions, is_whole_statement, is_declaration_tree, some}
 use Rattle.pv_tree.specs.Fitting.{DeclarationFits, StatementFits, RowFits, OptionalFits}
-use Rattle.pv_expr_forms.specs.Reader.{Reads as Expressing, head_of as begun_of, head as begun, deeper, fronted, read}
+use Rattle.pv_expr_forms.specs.Reader.{Reads as Expressing, head_of as begun_of, head as begun, deeper, prefix_behind, read}
 use Rattle.pv_expr_forms.proofs.Runs.{Takes, takes_parts}
 use Rattle.pv_expr_forms.proofs.Operators.{binary_rank_in}
 use Rattle.pv_expr_forms.proofs.Ends.{Stops as Ends, stops_at}
@@ -46,7 +46,7 @@ begins_form _ = false
 
 begun_none : (names : Names) (r : Expressing) (below line : ℕ) (k : TokenKind) (ts : List Token) → begins_form k ≡ true
     → begun_of names r below line k ts ≡ None
-unfolding begun_of fronted
+unfolding begun_of prefix_behind
 begun_none names r below line (kind.Mark mark.OpenBrace) ts e = refl
 begun_none names r below line (kind.Mark mark.CloseBrace) ts e = refl
 begun_none names r below line (kind.Mark mark.CloseParen) ts e = refl
@@ -153,7 +153,7 @@ expression_opens names a (t ∷ ts) rest f h s =
 
 -- an expression that may be left out, before a semicolon
 pub optional_opens : (names : Names) (o : OptionalTree) (here rest : List Token) → OptionalFits names.is_type (Fits names) Expressions o here
-    → Takes (ended (optional_tokens o)) here rest → Opening names here
+    → Takes (with_semicolon (optional_tokens o)) here rest → Opening names here
 optional_opens names Absent [] rest f h = absurd h
 optional_opens names Absent (t ∷ ts) rest f h = opening_at names (kind.Mark mark.Semicolon) t ts h.0 refl refl refl
 optional_opens names (Present (OfExpression a)) here rest f h =
@@ -183,11 +183,11 @@ statement_opens names (IfElse line a body other) here rest w f h =
 statement_opens names (While line a body) here rest w f h =
     opens_with names (kind.Word word.While) (in_parens (expression_tokens a) ++ statement_tokens body) here rest h refl refl refl
 statement_opens names (DoWhile line body a) here rest w f h =
-    opens_with names (kind.Word word.Do) (statement_tokens body ++ (kind.Word word.While ∷ ended (in_parens (expression_tokens a)))) here rest h refl refl refl
+    opens_with names (kind.Word word.Do) (statement_tokens body ++ (kind.Word word.While ∷ with_semicolon (in_parens (expression_tokens a)))) here rest h refl refl refl
 statement_opens names (For line first condition step body) here rest w f h =
-    opens_with names (kind.Word word.For) (in_parens (ended (optional_tokens first) ++ (ended (optional_tokens condition) ++ optional_tokens step)) ++ statement_tokens body) here rest h refl refl refl
+    opens_with names (kind.Word word.For) (in_parens (with_semicolon (optional_tokens first) ++ (with_semicolon (optional_tokens condition) ++ optional_tokens step)) ++ statement_tokens body) here rest h refl refl refl
 statement_opens names (ForDeclaration line declaration condition step body) here rest w f h =
-    opens_with names (kind.Word word.For) (in_parens (declaration_tokens declaration ++ (ended (optional_tokens condition) ++ optional_tokens step)) ++ statement_tokens body) here rest h refl refl refl
+    opens_with names (kind.Word word.For) (in_parens (declaration_tokens declaration ++ (with_semicolon (optional_tokens condition) ++ optional_tokens step)) ++ statement_tokens body) here rest h refl refl refl
 statement_opens names (Switch line a block) here rest w f h =
     opens_with names (kind.Word word.Switch) (in_parens (expression_tokens a) ++ statement_tokens block) here rest h refl refl refl
 statement_opens names (Break line) here rest w f h =
@@ -195,7 +195,7 @@ statement_opens names (Break line) here rest w f h =
 statement_opens names (Continue line) here rest w f h =
     opens_with names (kind.Word word.Continue) (kind.Mark mark.Semicolon ∷ []) here rest h refl refl refl
 statement_opens names (Return line a) here rest w f h =
-    opens_with names (kind.Word word.Return) (ended (optional_tokens a)) here rest h refl refl refl
+    opens_with names (kind.Word word.Return) (with_semicolon (optional_tokens a)) here rest h refl refl refl
 statement_opens names _ here rest w f h = absurd cc
 
 -- ---- the first token of a declaration

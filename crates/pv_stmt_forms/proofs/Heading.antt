@@ -20,13 +20,13 @@ use Rattle.pv_stmt_forms.specs.declared.forms.First.{First}
 use Rattle.pv_stmt_forms.specs.declared.forms.First.TheVariants as first
 use Rattle.pv_stmt_forms.specs.declared.forms.ForHead.{ForHead}
 use Rattle.pv_stmt_forms.specs.Parts.{PartAnswers, HasFirst, HasHead, for_with, for_by, after_first, IsFirstThere, FirstAnswers, after_head, IsHeadThere, HeadAnswers}
-use Rattle.pv_stmt_forms.specs.Statements.{expression_before, declared, for_rest, for_parts, for_loop}
+use Rattle.pv_stmt_forms.specs.Statements.{expression_before, only_declaration, for_rest, for_parts, for_loop}
 use Rattle.pv_stmt_forms.proofs.Chains.{first_some, first_none, there_of, part_got, part_lost, part_stands}
 
 -- ---- the first part
 
 module _ (names : Names) (depth : ℕ) (ts : List Token) where
-  module _ (begins : begins_type names ts ≡ true) (u : Tables) (tokens : List Token) (answer : Option (NodeId × ℕ)) (a : Answers u is_declaration tokens answer (declared (declaration names depth ts))) where
+  module _ (begins : begins_type names ts ≡ true) (u : Tables) (tokens : List Token) (answer : Option (NodeId × ℕ)) (a : Answers u is_declaration tokens answer (only_declaration (declaration names depth ts))) where
     pub declaration_none : answer ≡ None → FirstAnswers u names depth tokens None ts
     unfolding for_parts
     declaration_none e = record { is = λ read line. rw (begins, first_none u is_declaration tokens answer _ a e) refl; there = tt }

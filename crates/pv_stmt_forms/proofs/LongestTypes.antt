@@ -12,7 +12,7 @@ use Rattle.pv_expr_forms.proofs.Runs.{Takes}
 use Rattle.pv_expr_forms.proofs.Steps.{some_is}
 use Rattle.pv_expr_forms.proofs.Heads.{IsSpelled}
 use Rattle.pv_decl_forms.specs.Pieces.{Piece}
-use Rattle.pv_decl_forms.specs.Reader.{specified, readers, type_name, as_type_name, HasTypeNames}
+use Rattle.pv_decl_forms.specs.Reader.{behind_specifiers, readers, type_name, as_type_name, HasTypeNames}
 use Rattle.pv_decl_forms.proofs.Stops.{specifiers_none, row_quits}
 use Rattle.pv_decl_forms.proofs.Naming.{type_name_good}
 use Rattle.pv_decl_forms.proofs.Nested.{IsWithin, type_name_agrees}
@@ -20,7 +20,7 @@ use Rattle.pv_stmt_forms.specs.Externals.{type_names_for, names_by}
 
 -- where no token is left there is no type name
 pub type_name_empty : (names : Names) (deep : ℕ) → type_name names deep [] ≡ None
-unfolding type_name specified
+unfolding type_name behind_specifiers
 type_name_empty names deep = rw (row_quits (readers names deep Specifiers) NoTrees [] (specifiers_none names deep [] refl)) refl
 
 named_takes : (names : Names) (K : List Token → Type 0) → IsSpelled names K → (deep : ℕ) (ts : List Token) (type : DeclarationTree) (rest : List Token) → K ts

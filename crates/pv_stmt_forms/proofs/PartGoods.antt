@@ -7,7 +7,7 @@ use Rattle.pv_token.specs.declared.marks.Mark.TheVariants as mark
 use Rattle.pv_tree.specs.Syntax.{ExpressionTree, DeclarationTree, StatementTree, Tree, OfExpression, OfDeclaration, OfStatement, OptionalTree}
 use Rattle.pv_tree.specs.Depths.{expression_depth, declaration_depth, statement_depth, optional_depth}
 use Rattle.pv_tree.specs.Levels.{rank}
-use Rattle.pv_tree.specs.Spelling.{ended, in_parens, expression_tokens, declaration_tokens, statement_tokens, optional_tokens}
+use Rattle.pv_tree.specs.Spelling.{with_semicolon, in_parens, expression_tokens, declaration_tokens, statement_tokens, optional_tokens}
 use Rattle.pv_tree.specs.Spells.{Names, Fits}
 use Rattle.pv_tree.specs.Tables.{as_expression, as_declaration, as_statement}
 use Rattle.pv_tree.specs.Places.{Place, Expressions, BlockItems, SwitchItems, Labels, is_declaration_tree, is_whole_statement, is_switch_block}
@@ -19,12 +19,12 @@ use Rattle.pv_expr_forms.proofs.Marks.{after_close}
 use Rattle.pv_expr_forms.proofs.Trees.{some_tokens}
 use Rattle.pv_expr_forms.proofs.Heads.{IsSpelled}
 use Rattle.pv_expr_forms.proofs.Sound.{read_sound}
-use Rattle.pv_decl_forms.specs.Pieces.{Piece, Reads, is_semicolon, optional}
+use Rattle.pv_decl_forms.specs.Pieces.{Piece, Reads, is_semicolon, part_if_any}
 use Rattle.pv_decl_forms.specs.Reader.{declaration}
 use Rattle.pv_decl_forms.proofs.Marks.{semicolon_taken}
 use Rattle.pv_decl_forms.proofs.Goods.{Good, IsSound, Optioned, known_behind, optional_good}
 use Rattle.pv_decl_forms.proofs.Externals.{declaration_good}
-use Rattle.pv_stmt_forms.specs.Statements.{Form, Statements, SwitchBlocks, expression, before, condition, expression_before, declared, for_rest}
+use Rattle.pv_stmt_forms.specs.Statements.{Form, Statements, SwitchBlocks, expression, before, condition, expression_before, only_declaration, for_rest}
 use Rattle.pv_stmt_forms.proofs.FormTokens.{open_taken, before_is, optional_before_is}
 
 -- ---- readers by the place of what they read
@@ -123,7 +123,7 @@ pub record Looped (names : Names) (deep : ℕ) (here : List Token) (make : Optio
   pub fits : StatementFits names.is_type (Fits names) (as_statement body) (drop 1 (past (optional_tokens step) (drop 1 (past (optional_tokens condition) here))))
   pub shallow : max (optional_depth condition) (max (optional_depth step) (statement_depth (as_statement body))) ≤ deep
   pub takes : (front : List TokenKind) (before : List Token) → Takes front before here
-      → Takes (((front ++ (ended (optional_tokens condition) ++ optional_tokens step)) ++ kind.Mark mark.CloseParen ∷ []) ++ statement_tokens (as_statement body)) before rest
+      → Takes (((front ++ (with_semicolon (optional_tokens condition) ++ optional_tokens step)) ++ kind.Mark mark.CloseParen ∷ []) ++ statement_tokens (as_statement body)) before rest
 
 -- kinds, and one more
 pub behind_one : (ks : List TokenKind) (k : TokenKind) (here mid rest : List Token) → Takes ks here mid → Takes (k ∷ []) mid rest
@@ -166,7 +166,7 @@ module _ (names : Names) (K : List Token → Type 0) (spelled : IsSpelled names 
   -- ---- parts that may be left out
 
   expression_optional : (ts : List Token) → K ts
-      → Optioned names Expressions deep ts (optional ts (expression names deep 1 ts)).0 (optional ts (expression names deep 1 ts)).1
+      → Optioned names Expressions deep ts (part_if_any ts (expression names deep 1 ts)).0 (part_if_any ts (expression names deep 1 ts)).1
   expression_optional ts known =
       let s = placed_sound names K deep nowhere nowhere nowhere (expression names deep 1) (nowhere_good names K BlockItems deep) (nowhere_good names K SwitchItems deep) (nowhere_good names K Labels deep) part_good in
       (optional_good names K spelled deep (placed nowhere nowhere nowhere (expression names deep 1)) s Expressions ts known).1
@@ -176,7 +176,7 @@ module _ (names : Names) (K : List Token → Type 0) (spelled : IsSpelled names 
       → Parted names deep k ts o rest
   unfolding expression_before
   parted_good test k taken ts o rest known e =
-      let x = optional ts (expression names deep 1 ts) in
+      let x = part_if_any ts (expression names deep 1 ts) in
       let b = optional_before_is test x o rest e in
       let g = expression_optional ts known in
       let c = taken x.1 rest b.0 in
@@ -189,9 +189,9 @@ module _ (names : Names) (K : List Token → Type 0) (spelled : IsSpelled names 
 
   -- ---- declarations
 
-  declared_by : (o : Piece) (ts : List Token) (a : Tree) (rest : List Token) → K ts → declaration names deep ts ≡ o → declared o ≡ Some (a, rest)
+  declared_by : (o : Piece) (ts : List Token) (a : Tree) (rest : List Token) → K ts → declaration names deep ts ≡ o → only_declaration o ≡ Some (a, rest)
       → Declared names deep ts a rest
-  unfolding declared
+  unfolding only_declaration
   declared_by None ts a rest known is e = absurd cc
   declared_by (Some x) ts a rest known is e =
       let g = guarded (is_declaration_tree (as_declaration x.0)) (Some x) (a, rest) e in
@@ -206,7 +206,7 @@ module _ (names : Names) (K : List Token → Type 0) (spelled : IsSpelled names 
         takes = subst (λ (y : DeclarationTree). Takes (declaration_tokens y) ts x.1) tree d.takes;
       })
 
-  pub declared_good : (ts : List Token) (a : Tree) (rest : List Token) → K ts → declared (declaration names deep ts) ≡ Some (a, rest)
+  pub declared_good : (ts : List Token) (a : Tree) (rest : List Token) → K ts → only_declaration (declaration names deep ts) ≡ Some (a, rest)
       → Declared names deep ts a rest
   declared_good ts a rest known e = declared_by (declaration names deep ts) ts a rest known refl e
 
@@ -248,7 +248,7 @@ module _ (names : Names) (K : List Token → Type 0) (spelled : IsSpelled names 
           stands = b.stands;
           fits = subst (λ (y : List Token). StatementFits names.is_type (Fits names) (as_statement x.0) y) (sym at) b.fits;
           shallow = omega (arith, gc.shallow, gs.shallow, b.shallow);
-          takes = λ front start h. step_takes (ended (optional_tokens c.0)) (optional_tokens p.0) (statement_tokens (as_statement x.0)) front start ts c.1 p.1 x.1 h gc.takes gs.takes b.takes;
+          takes = λ front start h. step_takes (with_semicolon (optional_tokens c.0)) (optional_tokens p.0) (statement_tokens (as_statement x.0)) front start ts c.1 p.1 x.1 h gc.takes gs.takes b.takes;
         }
 
     pub for_rest_good : (make : OptionalTree → OptionalTree → Tree → Tree) (ts : List Token) (a : Tree) (rest : List Token) → K ts

@@ -17,7 +17,7 @@ use Rattle.pv_tree.specs.Units.{depth_limit}
 use Rattle.pv_expr_forms.proofs.Heads.{IsSpelled}
 use Rattle.pv_expr_forms.proofs.Spans.{IsEnd, names_spelled, at_end}
 use Rattle.pv_decl_forms.specs.Pieces.{Piece}
-use Rattle.pv_decl_forms.specs.Answers.{seen}
+use Rattle.pv_decl_forms.specs.Answers.{piece_from}
 use Rattle.pv_decl_forms.specs.Reader.{type_name, as_type_name, HasTypeNames}
 use Rattle.pv_decl_forms.specs.TypeNames.{AreTypeNames}
 use Rattle.pv_decl_forms.proofs.Nested.{HoldsTypeNames, has_holds, declaration_by_map, declaration_by_grammar}
@@ -50,7 +50,7 @@ by_longest is_type = by_spelled is_type Anywhere (λ t ts k. tt)
 
 -- ---- a table of type names
 
-seen_type : (f : Forest) (tokens : List Token) (o : Option (NodeId × ℕ)) → type_seen f tokens o ≡ as_type_name (seen f tokens o)
+seen_type : (f : Forest) (tokens : List Token) (o : Option (NodeId × ℕ)) → type_seen f tokens o ≡ as_type_name (piece_from f tokens o)
 seen_type f tokens None = refl
 seen_type f tokens (Some x) = refl
 
@@ -82,7 +82,7 @@ module _ (is_type : ℕ → Bool) (types : TypeMap) (u : Tables) (tokens : List 
 
   -- what the table has at a place
   type_there : (k : ℕ) (o : Token) (ts : List Token) → k ≤ length tokens → drop k tokens ≡ o ∷ ts
-      → (names_of is_type types u.forest tokens).type_at ts ≡ as_type_name (seen u.forest tokens (types (suc k)))
+      → (names_of is_type types u.forest tokens).type_at ts ≡ as_type_name (piece_from u.forest tokens (types (suc k)))
   unfolding names_of
   type_there k o ts p e =
       ap (λ (n : ℕ). type_seen u.forest tokens (types n)) (place_behind tokens k o ts p e) ∙ seen_type u.forest tokens (types (suc k))
@@ -93,17 +93,17 @@ module _ (is_type : ℕ → Bool) (types : TypeMap) (u : Tables) (tokens : List 
     | inr h ↦ (elim (cases_lt n to) [ inl l ↦ inl (h, l) | inr l ↦ inr (inr l) ])
   ]
 
-  nothing_outside : (k : ℕ) → (suc k < from) ⊎ (to ≤ suc k) → as_type_name (seen u.forest tokens (types (suc k))) ≡ None
-  nothing_outside k out = ap (λ (x : Option (NodeId × ℕ)). as_type_name (seen u.forest tokens x)) (names.outside (suc k) out)
+  nothing_outside : (k : ℕ) → (suc k < from) ⊎ (to ≤ suc k) → as_type_name (piece_from u.forest tokens (types (suc k))) ≡ None
+  nothing_outside k out = ap (λ (x : Option (NodeId × ℕ)). as_type_name (piece_from u.forest tokens x)) (names.outside (suc k) out)
 
   read_inside : (k : ℕ) (o : Token) (ts : List Token) → from ≤ suc k → suc k < to → drop k tokens ≡ o ∷ ts → o.kind ≡ kind.Mark mark.OpenParen
-      → as_type_name (seen u.forest tokens (types (suc k))) ≡ as_type_name (type_name (names_of is_type types u.forest tokens) depth_limit ts)
+      → as_type_name (piece_from u.forest tokens (types (suc k))) ≡ as_type_name (type_name (names_of is_type types u.forest tokens) depth_limit ts)
   read_inside k o ts p q e paren = ap as_type_name (names.behind k o ts p q e paren)
 
   -- what there is was read so, wherever it stands
   holds_by : (k : ℕ) (o : Token) (ts : List Token) (type : DeclarationTree) (rest : List Token) → drop k tokens ≡ o ∷ ts → o.kind ≡ kind.Mark mark.OpenParen
       → ((from ≤ suc k) × (suc k < to)) ⊎ ((suc k < from) ⊎ (to ≤ suc k))
-      → as_type_name (seen u.forest tokens (types (suc k))) ≡ Some (type, rest)
+      → as_type_name (piece_from u.forest tokens (types (suc k))) ≡ Some (type, rest)
       → as_type_name (type_name (names_of is_type types u.forest tokens) depth_limit ts) ≡ Some (type, rest)
   holds_by k o ts type rest e paren (inl h) s = sym (read_inside k o ts h.0 h.1 e paren) ∙ s
   holds_by k o ts type rest e paren (inr h) s = absurd (let none = nothing_outside k h in cc)
@@ -114,7 +114,7 @@ module _ (is_type : ℕ → Bool) (types : TypeMap) (u : Tables) (tokens : List 
   -- all there are from a place on
   has_by : (k : ℕ) (o : Token) (ts : List Token) → from ≤ k → length tokens ≤ to → k ≤ length tokens → drop k tokens ≡ o ∷ ts → o.kind ≡ kind.Mark mark.OpenParen
       → ((from ≤ suc k) × (suc k < to)) ⊎ ((suc k < from) ⊎ (to ≤ suc k))
-      → as_type_name (seen u.forest tokens (types (suc k))) ≡ as_type_name (type_name (names_of is_type types u.forest tokens) depth_limit ts)
+      → as_type_name (piece_from u.forest tokens (types (suc k))) ≡ as_type_name (type_name (names_of is_type types u.forest tokens) depth_limit ts)
   has_by k o ts p all q e paren (inl h) = read_inside k o ts h.0 h.1 e paren
   has_by k o ts p all q e paren (inr (inl h)) = absurd (omega (arith, h, p))
   has_by k o ts p all q e paren (inr (inr h)) =

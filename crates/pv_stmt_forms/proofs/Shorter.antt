@@ -20,14 +20,14 @@ use Rattle.pv_expr_forms.proofs.Runs.{takes_length, takes_known}
 use Rattle.pv_expr_forms.proofs.Sound.{read_shortens}
 use Rattle.pv_expr_forms.proofs.Spans.{IsEnd, names_spelled}
 use Rattle.pv_expr_forms.proofs.Steps.{guarded, mapped, followed, some_is}
-use Rattle.pv_decl_forms.specs.Pieces.{Piece, is_semicolon, is_close_brace, optional, row}
+use Rattle.pv_decl_forms.specs.Pieces.{Piece, is_semicolon, is_close_brace, part_if_any, row}
 use Rattle.pv_decl_forms.specs.Reader.{declaration}
 use Rattle.pv_decl_forms.proofs.Externals.{declaration_good}
 use Rattle.pv_decl_forms.proofs.Steps.{Shortens, row_holds}
 use Rattle.pv_stmt_forms.specs.declared.forms.Within.{Within}
 use Rattle.pv_stmt_forms.specs.declared.forms.Within.TheVariants as within
 use Rattle.pv_stmt_forms.specs.Parts.{item_in}
-use Rattle.pv_stmt_forms.specs.Statements.{is_else, is_while, expression, before, optional_before, condition, expression_before, declared, second, chosen, selection, loop, do_end, do_loop, for_rest, for_parts, for_loop, switch, block_end, item, block, label_of, label, with_labels, labelled, switch_block_of, switch_block, simple, returned, statement_of, statement_by, Form, Statements, SwitchBlocks, readers}
+use Rattle.pv_stmt_forms.specs.Statements.{is_else, is_while, expression, before, optional_before, condition, expression_before, only_declaration, second, else_part, selection, loop, do_end, do_loop, for_rest, for_parts, for_loop, switch, block_end, item, block, label_of, label, with_labels, labels_and_statement, switch_block_of, switch_block, simple, return_behind, statement_of, statement_by, Form, Statements, SwitchBlocks, readers}
 
 -- what is read leaves fewer tokens, of which K holds
 abbrev pub Nears : {A : Type 0} → (K : List Token → Type 0) → List Token → Option (A × List Token) → Type 0
@@ -94,7 +94,7 @@ module _ (K : List Token → Type 0) (tail : (t : Token) (ts : List Token) → K
   cond_near true ts o p h k = h
   cond_near false ts o p h k = k
 
-  optional_near : (ts : List Token) (o : Piece) → K ts → Nears K ts o → K (optional ts o).1 × (length (optional ts o).1 ≤ length ts)
+  optional_near : (ts : List Token) (o : Piece) → K ts → Nears K ts o → K (part_if_any ts o).1 × (length (part_if_any ts o).1 ≤ length ts)
   optional_near ts None known h = (known, omega arith)
   optional_near ts (Some x) known h = let r = h x refl in (r.0, omega (arith, r.1))
 
@@ -113,7 +113,7 @@ module _ (K : List Token → Type 0) (tail : (t : Token) (ts : List Token) → K
     expression_before_near : (depth : ℕ) (test : TokenKind → Bool) (ts : List Token) → K ts → Nears K ts (expression_before names depth test ts)
     unfolding expression_before optional_before
     expression_before_near depth test ts known y e =
-        let o = optional ts (expression names depth 1 ts) in
+        let o = part_if_any ts (expression names depth 1 ts) in
         let r = optional_near ts (expression names depth 1 ts) known (expression_near depth 1 ts known) in
         let s = ends_near o.0 test o.1 r.0 y e in
         (s.0, omega (arith, r.1, s.1))
@@ -123,15 +123,15 @@ module _ (K : List Token → Type 0) (tail : (t : Token) (ts : List Token) → K
         let g = declaration_good names K spelled depth ts x.0 x.1 known e in
         (takes_known K tail (declaration_tokens g.tree) ts x.1 g.takes known, omega (arith, takes_length (declaration_tokens g.tree) ts x.1 g.takes, g.spells))
 
-    declared_near : (ts : List Token) (o : Piece) → Nears K ts o → Nears K ts (declared o)
-    unfolding declared
+    declared_near : (ts : List Token) (o : Piece) → Nears K ts o → Nears K ts (only_declaration o)
+    unfolding only_declaration
     declared_near ts None h = h
     declared_near ts (Some x) h = cond_near (is_declaration_tree (as_declaration x.0)) ts (Some x) None h (none_near ts)
 
     item_near : (depth : ℕ) (r : List Token → Piece) → ((ts : List Token) → K ts → Nears K ts (r ts)) → (ts : List Token) → K ts → Nears K ts (item names depth r ts)
     unfolding item
     item_near depth r h ts known =
-        cond_near (begins_type names ts) ts (declared (declaration names depth ts)) (r ts) (declared_near ts (declaration names depth ts) (declaration_near depth ts known)) (h ts known)
+        cond_near (begins_type names ts) ts (only_declaration (declaration names depth ts)) (r ts) (declared_near ts (declaration names depth ts) (declaration_near depth ts known)) (h ts known)
 
     label_of_near : (depth line : ℕ) (k : TokenKind) (ts : List Token) → K ts → Nears K ts (label_of names depth line k ts)
     unfolding label_of
@@ -159,8 +159,8 @@ module _ (K : List Token → Type 0) (tail : (t : Token) (ts : List Token) → K
         let s = ends_near (make x.0) is_close_brace x.1 known y e in
         (s.0, omega (arith, less, s.1))
 
-    labelled_near : (depth : ℕ) (r : List Token → Piece) → ((ts : List Token) → K ts → Nears K ts (r ts)) → (ts : List Token) → K ts → Nears K ts (labelled names depth r ts)
-    unfolding labelled with_labels
+    labelled_near : (depth : ℕ) (r : List Token → Piece) → ((ts : List Token) → K ts → Nears K ts (r ts)) → (ts : List Token) → K ts → Nears K ts (labels_and_statement names depth r ts)
+    unfolding labels_and_statement with_labels
     labelled_near depth r h ts known y e =
         let x = row (label names depth) NoTrees ts in
         let l = row_near (label names depth) (label_near depth) ts known in
@@ -175,8 +175,8 @@ module _ (K : List Token → Type 0) (tail : (t : Token) (ts : List Token) → K
       second_near a body ts here None known less k = some_near {A = Tree} ts _ known less
       second_near a body ts here (Some x) known less k = let s = k x refl in some_near {A = Tree} ts _ s.0 (omega (arith, less, s.1))
 
-      chosen_near : (a body : Tree) (ts here : List Token) → K here → length here < length ts → Nears K ts (chosen r line a body here)
-      unfolding chosen
+      chosen_near : (a body : Tree) (ts here : List Token) → K here → length here < length ts → Nears K ts (else_part r line a body here)
+      unfolding else_part
       chosen_near a body ts here known less =
           cond_near {A = Tree} (ends_open (as_statement body)) ts _ (second line a body here (option_and_then r (after is_else here))) (some_near {A = Tree} ts _ known less)
           (second_near a body ts here (option_and_then r (after is_else here)) known less (behind_near r is_else here known h))
@@ -184,9 +184,9 @@ module _ (K : List Token → Type 0) (tail : (t : Token) (ts : List Token) → K
       selection_near : (ts : List Token) → K ts → Nears K ts (selection names below r line ts)
       unfolding selection
       selection_near ts known y e =
-          let c = followed (λ (a : Tree × List Token). option_and_then (λ x. chosen r line a.0 x.0 x.1) (r a.1)) (condition names below ts) y e in
+          let c = followed (λ (a : Tree × List Token). option_and_then (λ x. else_part r line a.0 x.0 x.1) (r a.1)) (condition names below ts) y e in
           let near = condition_near below ts known c.0 c.1 in
-          let s = followed (λ (x : Tree × List Token). chosen r line c.0.0 x.0 x.1) (r c.0.1) y c.2 in
+          let s = followed (λ (x : Tree × List Token). else_part r line c.0.0 x.0 x.1) (r c.0.1) y c.2 in
           let first = h c.0.1 near.0 s.0 s.1 in
           chosen_near c.0.0 s.0.0 ts s.0.1 first.0 (omega (arith, near.1, first.1)) y s.2
 
@@ -218,9 +218,9 @@ module _ (K : List Token → Type 0) (tail : (t : Token) (ts : List Token) → K
       unfolding for_parts
       parts_near ts known =
           cond_near (begins_type names ts) ts
-          (option_and_then (λ d. for_rest names below r (λ c s x. OfStatement (ForDeclaration line (as_declaration d.0) c s (as_statement x))) d.1) (declared (declaration names below ts)))
+          (option_and_then (λ d. for_rest names below r (λ c s x. OfStatement (ForDeclaration line (as_declaration d.0) c s (as_statement x))) d.1) (only_declaration (declaration names below ts)))
           (option_and_then (λ f. for_rest names below r (λ c s x. OfStatement (For line f.0 c s (as_statement x))) f.1) (expression_before names below is_semicolon ts))
-          (then_near (λ (d : Tree × List Token). for_rest names below r (λ c s x. OfStatement (ForDeclaration line (as_declaration d.0) c s (as_statement x))) d.1) ts (declared (declaration names below ts)) (declared_near ts (declaration names below ts) (declaration_near below ts known))
+          (then_near (λ (d : Tree × List Token). for_rest names below r (λ c s x. OfStatement (ForDeclaration line (as_declaration d.0) c s (as_statement x))) d.1) ts (only_declaration (declaration names below ts)) (declared_near ts (declaration names below ts) (declaration_near below ts known))
           (λ d k. rest_near (λ c s x. OfStatement (ForDeclaration line (as_declaration d.0) c s (as_statement x))) d.1 k))
           (then_near (λ (f : OptionalTree × List Token). for_rest names below r (λ c s x. OfStatement (For line f.0 c s (as_statement x))) f.1) ts (expression_before names below is_semicolon ts) (expression_before_near below is_semicolon ts known)
           (λ f k. rest_near (λ c s x. OfStatement (For line f.0 c s (as_statement x))) f.1 k))
@@ -245,8 +245,8 @@ module _ (K : List Token → Type 0) (tail : (t : Token) (ts : List Token) → K
       unfolding simple
       simple_near ts known = map_near {A = OptionalTree} {B = Tree} (λ o. OfStatement (ExpressionStatement line o)) ts (expression_before names below is_semicolon ts) (expression_before_near below is_semicolon ts known)
 
-      returned_near : (ts : List Token) → K ts → Nears K ts (returned names below line ts)
-      unfolding returned
+      returned_near : (ts : List Token) → K ts → Nears K ts (return_behind names below line ts)
+      unfolding return_behind
       returned_near ts known = map_near {A = OptionalTree} {B = Tree} (λ o. OfStatement (Return line o)) ts (expression_before names below is_semicolon ts) (expression_before_near below is_semicolon ts known)
 
       begun_near : (k : TokenKind) (t : Token) (ts : List Token) → K (t ∷ ts) → K ts → Nears K (t ∷ ts) (statement_of names below r b line k (t ∷ ts) ts)
@@ -265,9 +265,9 @@ module _ (K : List Token → Type 0) (tail : (t : Token) (ts : List Token) → K
       switched_near : (k : TokenKind) (ts : List Token) → K ts → Nears K ts (switch_block_of names below r line k ts)
       unfolding switch_block_of
       switched_near (kind.Mark mark.OpenBrace) ts known =
-          let i = item_near below (labelled names below r) (labelled_near below r h) in
-          let l = row_near (item names below (labelled names below r)) i ts known in
-          block_near _ ts (row (item names below (labelled names below r)) NoTrees ts) l.0 l.1
+          let i = item_near below (labels_and_statement names below r) (labelled_near below r h) in
+          let l = row_near (item names below (labels_and_statement names below r)) i ts known in
+          block_near _ ts (row (item names below (labels_and_statement names below r)) NoTrees ts) l.0 l.1
       switched_near _ ts known = none_near {A = Tree} ts
 
     pub readers_near : (depth : ℕ) (form : Form) (ts : List Token) → K ts → Nears K ts (readers names depth form ts)
@@ -283,7 +283,7 @@ module _ (K : List Token → Type 0) (tail : (t : Token) (ts : List Token) → K
     pub item_in_near : (w : Within) (depth : ℕ) (ts : List Token) → K ts → Nears K ts (item_in w names depth ts)
     item_in_near within.Block depth ts known = item_near depth (readers names depth Statements) (readers_near depth Statements) ts known
     item_in_near within.Switch depth ts known =
-        item_near depth (labelled names depth (readers names depth Statements)) (labelled_near depth (readers names depth Statements) (readers_near depth Statements)) ts known
+        item_near depth (labels_and_statement names depth (readers names depth Statements)) (labelled_near depth (readers names depth Statements) (readers_near depth Statements)) ts known
 
 -- ---- at the places of one token list
 

@@ -23,7 +23,7 @@ use Rattle.pv_decl_forms.proofs.Steps.{Shortens}
 use Rattle.pv_decl_forms.proofs.Goods.{known_behind, part_shortens}
 use Rattle.pv_decl_forms.proofs.Stops.{row_quits}
 use Rattle.pv_decl_forms.proofs.Wholes.{on_line}
-use Rattle.pv_stmt_forms.specs.Statements.{Statements, SwitchBlocks, before, optional_before, expression_before, block_end, item, block, label_of, label, with_labels, labelled, switch_block_of, switch_block, simple, statement_of, statement_by, readers}
+use Rattle.pv_stmt_forms.specs.Statements.{Statements, SwitchBlocks, before, optional_before, expression_before, block_end, item, block, label_of, label, with_labels, labels_and_statement, switch_block_of, switch_block, simple, statement_of, statement_by, readers}
 use Rattle.pv_stmt_forms.proofs.FormTokens.{NoElse, no_else_on}
 use Rattle.pv_stmt_forms.proofs.PartGoods.{nowhere, placed, IsGoodAt, nowhere_good, placed_sound}
 use Rattle.pv_stmt_forms.proofs.StatementGoods.{item_good, label_good, statement_item, labelled_good, statement_good}
@@ -118,8 +118,8 @@ module _ (names : Names) (K : List Token → Type 0) (spelled : IsSpelled names 
       → RowFits names.is_type (Fits names) Labels labels here
       → is_whole_statement s ≡ true → StatementFits names.is_type (Fits names) s (past (trees_tokens labels) here)
       → trees_depth labels ≤ deep → statement_depth s ≤ deep
-      → Takes (trees_tokens labels ++ statement_tokens s) here rest → NoElse rest → labelled names deep read here ≡ Some (OfStatement (Labelled line labels s), rest)
-  unfolding labelled with_labels
+      → Takes (trees_tokens labels ++ statement_tokens s) here rest → NoElse rest → labels_and_statement names deep read here ≡ Some (OfStatement (Labelled line labels s), rest)
+  unfolding labels_and_statement with_labels
   behind_labels line labels s here rest known e has f w fits d l h n =
       let p = takes_parts (trees_tokens labels) (statement_tokens s) here rest h in
       let at = takes_rest (trees_tokens labels) here p.0 p.1 in
@@ -132,8 +132,8 @@ module _ (names : Names) (K : List Token → Type 0) (spelled : IsSpelled names 
 
   without_labels : (s : StatementTree) (here rest : List Token) → K here → is_whole_statement s ≡ true → StatementFits names.is_type (Fits names) s here
       → statement_depth s ≤ deep
-      → Takes (statement_tokens s) here rest → NoElse rest → labelled names deep read here ≡ Some (OfStatement s, rest)
-  unfolding labelled with_labels
+      → Takes (statement_tokens s) here rest → NoElse rest → labels_and_statement names deep read here ≡ Some (OfStatement s, rest)
+  unfolding labels_and_statement with_labels
   without_labels s here rest known w f d h n =
       let o = statement_opens names s here rest w f h in
       let r = row_quits (label names deep) NoTrees here (label_none names deep here o.no_label) in
@@ -141,7 +141,7 @@ module _ (names : Names) (K : List Token → Type 0) (spelled : IsSpelled names 
 
   labelled_exact : (s : StatementTree) (here rest : List Token) → K here → stands SwitchItems (OfStatement s) ≡ true → StatementFits names.is_type (Fits names) s here
       → statement_depth s ≤ deep
-      → Takes (statement_tokens s) here rest → NoElse rest → labelled names deep read here ≡ Some (OfStatement s, rest)
+      → Takes (statement_tokens s) here rest → NoElse rest → labels_and_statement names deep read here ≡ Some (OfStatement s, rest)
   labelled_exact (Labelled line labels s) here rest known w f d h n =
       behind_labels line labels s here rest known f.0 f.1 f.2 f.3 f.4 (omega (arith, d)) (omega (arith, d)) h n
   labelled_exact s here rest known w f d h n = without_labels s here rest known w f d h n
@@ -154,10 +154,10 @@ module _ (names : Names) (K : List Token → Type 0) (spelled : IsSpelled names 
       (o.no_type, o.no_else)
   switched_opens s here rest w f h = let o = statement_opens names s here rest w f h in (o.no_type, o.no_else)
 
-  switch_item_exact : ExactWhere names K SwitchItems deep NoElse (item names deep (labelled names deep read))
-  switch_item_exact (OfDeclaration d) here rest known s f d' h n = item_declaration (labelled names deep read) d here rest known s f d' h
+  switch_item_exact : ExactWhere names K SwitchItems deep NoElse (item names deep (labels_and_statement names deep read))
+  switch_item_exact (OfDeclaration d) here rest known s f d' h n = item_declaration (labels_and_statement names deep read) d here rest known s f d' h
   switch_item_exact (OfStatement t) here rest known s f d h n =
-      item_statement (labelled names deep read) here (Some (OfStatement t, rest)) (switched_opens t here rest s f h).0 (labelled_exact t here rest known s f d h n)
+      item_statement (labels_and_statement names deep read) here (Some (OfStatement t, rest)) (switched_opens t here rest s f h).0 (labelled_exact t here rest known s f d h n)
   switch_item_exact _ here rest known s f d h n = absurd cc
 
   switch_item_lets : LetsEnd names SwitchItems NoElse
@@ -177,14 +177,14 @@ module _ (names : Names) (K : List Token → Type 0) (spelled : IsSpelled names 
   block_item_shut : (t : Token) (ts : List Token) → t.kind ≡ kind.Mark mark.CloseBrace → item names deep read (t ∷ ts) ≡ None
   block_item_shut t ts k = item_statement read (t ∷ ts) None (brace_no_type t ts k) (x.shut t ts k)
 
-  labelled_shut : (t : Token) (ts : List Token) → t.kind ≡ kind.Mark mark.CloseBrace → labelled names deep read (t ∷ ts) ≡ None
-  unfolding labelled with_labels
+  labelled_shut : (t : Token) (ts : List Token) → t.kind ≡ kind.Mark mark.CloseBrace → labels_and_statement names deep read (t ∷ ts) ≡ None
+  unfolding labels_and_statement with_labels
   labelled_shut t ts k =
       let r = row_quits (label names deep) NoTrees (t ∷ ts) (label_none names deep (t ∷ ts) (brace_no_label t ts k)) in
       rw r (x.shut t ts k)
 
-  switch_item_shut : (t : Token) (ts : List Token) → t.kind ≡ kind.Mark mark.CloseBrace → item names deep (labelled names deep read) (t ∷ ts) ≡ None
-  switch_item_shut t ts k = item_statement (labelled names deep read) (t ∷ ts) None (brace_no_type t ts k) (labelled_shut t ts k)
+  switch_item_shut : (t : Token) (ts : List Token) → t.kind ≡ kind.Mark mark.CloseBrace → item names deep (labels_and_statement names deep read) (t ∷ ts) ≡ None
+  switch_item_shut t ts k = item_statement (labels_and_statement names deep read) (t ∷ ts) None (brace_no_type t ts k) (labelled_shut t ts k)
 
   block_exact : (line : ℕ) (items : Trees) (here rest : List Token) → K here → line ≡ line_here here
       → RowFits names.is_type (Fits names) BlockItems items (drop 1 here) → trees_depth items ≤ deep
@@ -208,7 +208,7 @@ module _ (names : Names) (K : List Token → Type 0) (spelled : IsSpelled names 
   switch_block_exact line items [] rest known e f d h = absurd h
   switch_block_exact line items (t ∷ ts) rest known e f d h =
       let p = parts_at (trees_tokens items) (kind.Mark mark.CloseBrace) [] ts rest h.1 in
-      let g = labelled names deep read in
+      let g = labels_and_statement names deep read in
       let good = item_good names K spelled deep SwitchItems (λ d h. h) g (labelled_good names K spelled deep read x.sound) in
       let r = row_whole names K spelled SwitchItems deep NoElse (item names deep g) (switched_shortens names K spelled deep (item names deep g) good) switch_item_exact switch_item_lets
       items ts (p.token ∷ p.after) (spelled.tail t ts known) f d p.left (no_else_on (kind.Mark mark.CloseBrace) p.token p.after p.kind refl) (switch_item_shut p.token p.after p.kind) in

@@ -20,7 +20,7 @@ use Rattle.pv_expr_forms.proofs.Heads.{IsSpelled}
 use Rattle.pv_decl_forms.specs.Pieces.{Piece, row}
 use Rattle.pv_decl_forms.specs.Reader.{declaration}
 use Rattle.pv_decl_forms.proofs.Goods.{Good, Rowed, good_at, right_spells, row_good}
-use Rattle.pv_stmt_forms.specs.Statements.{Form, Statements, SwitchBlocks, expression, declared, item, block, label_of, label, with_labels, labelled, switch_block_of, switch_block, statement_of, statement_by, readers}
+use Rattle.pv_stmt_forms.specs.Statements.{Form, Statements, SwitchBlocks, expression, only_declaration, item, block, label_of, label, with_labels, labels_and_statement, switch_block_of, switch_block, statement_of, statement_by, readers}
 use Rattle.pv_stmt_forms.proofs.FormTokens.{before_is, block_end_is}
 use Rattle.pv_stmt_forms.proofs.PartGoods.{nowhere, placed, IsGoodAt, nowhere_good, placed_sound, Stated, IsStated, expression_good, declared_good}
 use Rattle.pv_stmt_forms.proofs.FormGoods.{switch_good, break_good, continue_good, return_good, simple_good, selection_good, loop_good, do_good, for_loop_good}
@@ -36,7 +36,7 @@ module _ (names : Names) (K : List Token → Type 0) (spelled : IsSpelled names 
   module _ (place : Place) (items : (d : DeclarationTree) → is_declaration_tree d ≡ true → stands place (OfDeclaration d) ≡ true) (read : List Token → Piece)
       (s : IsGoodAt names K place deep read) where
     item_by : (type : Bool) (ts : List Token) (a : Tree) (rest : List Token) → K ts
-        → cond type (declared (declaration names deep ts)) (read ts) ≡ Some (a, rest) → Good names place deep ts a rest
+        → cond type (only_declaration (declaration names deep ts)) (read ts) ≡ Some (a, rest) → Good names place deep ts a rest
     item_by true ts a rest known e =
         let d = declared_good names K spelled deep ts a rest known e in
         subst (λ (y : Tree). Good names place deep ts y rest) d.is
@@ -131,8 +131,8 @@ module _ (names : Names) (K : List Token → Type 0) (spelled : IsSpelled names 
     labelled_by true ts x a rest known b has e = behind_labels ts x a rest known b has e
     labelled_by false ts x a rest known b has e = without_labels ts x a rest known b has e
 
-    pub labelled_good : IsGoodAt names K SwitchItems deep (labelled names deep read)
-    unfolding labelled with_labels
+    pub labelled_good : IsGoodAt names K SwitchItems deep (labels_and_statement names deep read)
+    unfolding labels_and_statement with_labels
     labelled_good ts a rest known e =
         let x = row (label names deep) NoTrees ts in
         let b = labels_good ts known in
@@ -163,9 +163,9 @@ module _ (names : Names) (K : List Token → Type 0) (spelled : IsSpelled names 
         → switch_block_of names deep read t.line k ts ≡ Some (a, rest) → Stated names SwitchBlocks (suc deep) (t ∷ ts) a rest
     unfolding switch_block_of
     switch_block_of_good (kind.Mark mark.OpenBrace) t ts a rest known k e =
-        let f = item names deep (labelled names deep read) in
+        let f = item names deep (labels_and_statement names deep read) in
         let x = row f NoTrees ts in
-        let good = item_good SwitchItems (λ d h. h) (labelled names deep read) labelled_good in
+        let good = item_good SwitchItems (λ d h. h) (labels_and_statement names deep read) labelled_good in
         let s = placed_sound names K deep nowhere f nowhere nowhere (nowhere_good names K BlockItems deep) good (nowhere_good names K Labels deep) (nowhere_good names K Expressions deep) in
         let b = row_good names K spelled deep (placed nowhere f nowhere nowhere) s SwitchItems ts known in
         let c = block_end_is (λ items. OfStatement (SwitchBlock t.line items)) x a rest e in

@@ -22,7 +22,7 @@ use Rattle.pv_stmt_forms.specs.declared.forms.Within.TheVariants as within
 use Rattle.pv_stmt_forms.specs.declared.forms.First.{First}
 use Rattle.pv_stmt_forms.specs.declared.forms.First.TheVariants as first
 use Rattle.pv_stmt_forms.specs.declared.forms.ForHead.{ForHead}
-use Rattle.pv_stmt_forms.specs.Statements.{is_else, is_while, for_rest, for_parts, for_loop, item, block_end, label_of, labelled, Statements, readers}
+use Rattle.pv_stmt_forms.specs.Statements.{is_else, is_while, for_rest, for_parts, for_loop, item, block_end, label_of, labels_and_statement, Statements, readers}
 
 -- ---- tokens
 
@@ -59,22 +59,22 @@ label_word_of _ = None
 -- ---- what braces enclose (6.8.1p2, 6.8.2, 6.8.4.2)
 
 -- what braces make of the items: a block, or that of a `switch` (6.8.2p1, 6.8.4.2)
-abbrev pub enclosed : Within → (line : ℕ) → Trees → Tree
-enclosed within.Block line items = OfStatement (Block line items)
-enclosed within.Switch line items = OfStatement (SwitchBlock line items)
+abbrev pub block_tree : Within → (line : ℕ) → Trees → Tree
+block_tree within.Block line items = OfStatement (Block line items)
+block_tree within.Switch line items = OfStatement (SwitchBlock line items)
 
 -- a statement among the items (6.8.2p1)
 abbrev pub statement_in : Within → Names → (depth : ℕ) → List Token → Piece
 statement_in within.Block names depth = readers names depth Statements
-statement_in within.Switch names depth = labelled names depth (readers names depth Statements)
+statement_in within.Switch names depth = labels_and_statement names depth (readers names depth Statements)
 
 -- an item: a declaration or a statement (6.8.2p1)
 abbrev pub item_in : Within → Names → (depth : ℕ) → List Token → Piece
 item_in w names depth = item names depth (statement_in w names depth)
 
 -- behind `{` (6.8.2p1)
-abbrev pub braced : Within → Names → (below line : ℕ) → List Token → Piece
-braced w names below line ts = block_end (enclosed w line) (row (item_in w names below) NoTrees ts)
+abbrev pub block_behind : Within → Names → (below line : ℕ) → List Token → Piece
+block_behind w names below line ts = block_end (block_tree w line) (row (item_in w names below) NoTrees ts)
 
 -- ---- labels (6.8.1)
 

@@ -12,7 +12,7 @@ use Rattle.pv_tree.specs.Spells.{Names, begins_type}
 use Rattle.pv_tree.specs.Tables.{as_expression, as_declaration, as_statement}
 use Rattle.pv_tree.specs.Places.{is_declaration_tree, ends_open, some}
 use Rattle.pv_expr_forms.specs.Reader.{is_open, is_close, is_colon, after, read}
-use Rattle.pv_decl_forms.specs.Pieces.{Piece, is_semicolon, is_close_brace, optional, row}
+use Rattle.pv_decl_forms.specs.Pieces.{Piece, is_semicolon, is_close_brace, part_if_any, row}
 use Rattle.pv_decl_forms.specs.Reader.{declaration}
 
 -- ---- words that a form goes on with
@@ -48,12 +48,12 @@ condition names depth ts = option_and_then (λ rest. before is_close (expression
 
 -- an expression, if there is one, to behind a token of a kind (6.8.3p1, 6.8.5p1)
 unfoldable pub expression_before : Names → (depth : ℕ) → (TokenKind → Bool) → List Token → Option (OptionalTree × List Token)
-expression_before names depth test ts = optional_before test (optional ts (expression names depth 1 ts))
+expression_before names depth test ts = optional_before test (part_if_any ts (expression names depth 1 ts))
 
 -- a declaration (6.7p1), and no head of a function
-unfoldable pub declared : Piece → Piece
-declared None = None
-declared (Some x) = if is_declaration_tree (as_declaration x.0) then Some x else None
+unfoldable pub only_declaration : Piece → Piece
+only_declaration None = None
+only_declaration (Some x) = if is_declaration_tree (as_declaration x.0) then Some x else None
 
 -- ---- selection and iteration (6.8.4, 6.8.5)
 
@@ -64,15 +64,15 @@ second line a body ts (Some x) = Some (OfStatement (IfElse line (as_expression a
 
 -- once the first statement of an `if` is read. One that ends with an `if` without `else` is followed by none: what stands there was too deep for
 -- that `if`, and is nobody's (6.8.4.1p3)
-unfoldable pub chosen : (List Token → Piece) → (line : ℕ) → (a body : Tree) → List Token → Piece
-chosen read line a body ts =
+unfoldable pub else_part : (List Token → Piece) → (line : ℕ) → (a body : Tree) → List Token → Piece
+else_part read line a body ts =
     if ends_open (as_statement body)
     then Some (OfStatement (If line (as_expression a) (as_statement body)), ts)
     else second line a body ts (option_and_then read (after is_else ts))
 
 -- behind `if` (6.8.4p1)
 unfoldable pub selection : Names → (below : ℕ) → (List Token → Piece) → (line : ℕ) → List Token → Piece
-selection names below read line ts = option_and_then (λ a. option_and_then (λ x. chosen read line a.0 x.0 x.1) (read a.1)) (condition names below ts)
+selection names below read line ts = option_and_then (λ a. option_and_then (λ x. else_part read line a.0 x.0 x.1) (read a.1)) (condition names below ts)
 
 -- behind `while` (6.8.5p1)
 unfoldable pub loop : Names → (below : ℕ) → (List Token → Piece) → (line : ℕ) → List Token → Piece
@@ -98,7 +98,7 @@ for_rest names below read make ts =
 unfoldable pub for_parts : Names → (below : ℕ) → (List Token → Piece) → (line : ℕ) → List Token → Piece
 for_parts names below read line ts =
     if begins_type names ts
-    then option_and_then (λ d. for_rest names below read (λ c s x. OfStatement (ForDeclaration line (as_declaration d.0) c s (as_statement x))) d.1) (declared (declaration names below ts))
+    then option_and_then (λ d. for_rest names below read (λ c s x. OfStatement (ForDeclaration line (as_declaration d.0) c s (as_statement x))) d.1) (only_declaration (declaration names below ts))
     else option_and_then (λ f. for_rest names below read (λ c s x. OfStatement (For line f.0 c s (as_statement x))) f.1) (expression_before names below is_semicolon ts)
 
 -- behind `for` (6.8.5p1)
@@ -118,7 +118,7 @@ block_end make x = option_map (λ rest. (make x.0, rest)) (after is_close_brace 
 
 -- what may stand in a block: a declaration wherever a token that begins one stands (6.7p1)
 unfoldable pub item : Names → (depth : ℕ) → (List Token → Piece) → List Token → Piece
-item names depth read ts = if begins_type names ts then declared (declaration names depth ts) else read ts
+item names depth read ts = if begins_type names ts then only_declaration (declaration names depth ts) else read ts
 
 -- behind `{` (6.8.2p1)
 unfoldable pub block : Names → (below : ℕ) → (List Token → Piece) → (line : ℕ) → List Token → Piece
@@ -143,13 +143,13 @@ unfoldable pub with_labels : (List Token → Piece) → (line : ℕ) → Trees �
 with_labels read line x = if some x.0 then option_map (λ s. (OfStatement (Labelled line x.0 (as_statement s.0)), s.1)) (read x.1) else read x.1
 
 -- labels and a statement, or a statement alone (6.8.1p1)
-unfoldable pub labelled : Names → (depth : ℕ) → (List Token → Piece) → List Token → Piece
-labelled names depth read ts = with_labels read (line_here ts) (row (label names depth) NoTrees ts)
+unfoldable pub labels_and_statement : Names → (depth : ℕ) → (List Token → Piece) → List Token → Piece
+labels_and_statement names depth read ts = with_labels read (line_here ts) (row (label names depth) NoTrees ts)
 
 -- the block of a `switch`, by its first token
 unfoldable pub switch_block_of : Names → (below : ℕ) → (List Token → Piece) → (line : ℕ) → TokenKind → List Token → Piece
 switch_block_of names below read line (kind.Mark mark.OpenBrace) ts =
-    block_end (λ items. OfStatement (SwitchBlock line items)) (row (item names below (labelled names below read)) NoTrees ts)
+    block_end (λ items. OfStatement (SwitchBlock line items)) (row (item names below (labels_and_statement names below read)) NoTrees ts)
 switch_block_of names below read line _ ts = None
 
 -- the block of a `switch` (6.8.4.2), where alone labels stand
@@ -164,8 +164,8 @@ unfoldable pub simple : Names → (below line : ℕ) → List Token → Piece
 simple names below line ts = option_map (λ x. (OfStatement (ExpressionStatement line x.0), x.1)) (expression_before names below is_semicolon ts)
 
 -- behind `return` (6.8.6.4)
-unfoldable pub returned : Names → (below line : ℕ) → List Token → Piece
-returned names below line ts = option_map (λ x. (OfStatement (Return line x.0), x.1)) (expression_before names below is_semicolon ts)
+unfoldable pub return_behind : Names → (below line : ℕ) → List Token → Piece
+return_behind names below line ts = option_map (λ x. (OfStatement (Return line x.0), x.1)) (expression_before names below is_semicolon ts)
 
 -- by the first token (6.8p1): `all` are the tokens from it on, `ts` those behind it
 unfoldable pub statement_of : Names → (below : ℕ) → (read block : List Token → Piece) → (line : ℕ) → TokenKind → (all ts : List Token) → Piece
@@ -177,7 +177,7 @@ statement_of names below read switched line (kind.Word word.For) all ts = for_lo
 statement_of names below read switched line (kind.Word word.Switch) all ts = switch names below switched line ts
 statement_of names below read switched line (kind.Word word.Break) all ts = option_map (λ rest. (OfStatement (Break line), rest)) (after is_semicolon ts)
 statement_of names below read switched line (kind.Word word.Continue) all ts = option_map (λ rest. (OfStatement (Continue line), rest)) (after is_semicolon ts)
-statement_of names below read switched line (kind.Word word.Return) all ts = returned names below line ts
+statement_of names below read switched line (kind.Word word.Return) all ts = return_behind names below line ts
 statement_of names below read switched line _ all ts = simple names below line all
 
 -- a statement (6.8p1), by what reads those within

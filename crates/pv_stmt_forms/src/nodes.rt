@@ -6,7 +6,7 @@ ghost use Rattle.pv_tree.specs.Places.{is_declaration_tree};
 ghost use Rattle.pv_tree.specs.Syntax.{Labelled, OfStatement};
 ghost use Rattle.pv_tree.specs.Tables.{Forest, Has, HasList, tree_at, declaration_at, statement_at, trees_of, trees_at, is_declaration, is_statement, is_item, Is, Extends};
 ghost use Rattle.pv_expr_forms.specs.Reader.{after};
-ghost use Rattle.pv_stmt_forms.specs.Parts.{HasHead, test_of, enclosed, for_by};
+ghost use Rattle.pv_stmt_forms.specs.Parts.{HasHead, test_of, block_tree, for_by};
 ghost use Rattle.pv_stmt_forms.specs.Statements.{block_end};
 ghost use Rattle.pv_decl_forms.specs.Answers.{AnswersAt};
 
@@ -63,7 +63,7 @@ pub fn found_before(
 
 // The node of braces.
 fn block_node(within: Within, items: ListId) -> Stmt
-    ensures is { (f : Forest) (line : ℕ) → OfStatement (statement_of f line result) ≡ enclosed within line (trees_at f items) }
+    ensures is { (f : Forest) (line : ℕ) → OfStatement (statement_of f line result) ≡ block_tree within line (trees_at f items) }
     ensures children { (f : Forest) (count : ℕ) → HasList f count is_item items → HasStmtChildren f count result }
 {
     match within {
@@ -85,7 +85,7 @@ pub fn block_of(
     requires place { at ≤ length tokens.now.tokens }
     requires items { All (λ n. Is into.old is_item n) items.now }
     ensures keeps { Extends into.old into.new }
-    ensures ok { AnswersAt into.new is_statement tokens.now.tokens at result (λ ts. block_end (enclosed within line) (trees_of into.old.forest items.now, ts)) }
+    ensures ok { AnswersAt into.new is_statement tokens.now.tokens at result (λ ts. block_end (block_tree within line) (trees_of into.old.forest items.now, ts)) }
 {
     let Some(end) = after(tokens, at, Sign::CloseBrace) else {
         return Ok(None);

@@ -2,7 +2,7 @@
 ghost use Rattle.std.specs.Prelude.{◌≡◌, ◌≢◌, ◌⊎◌, ◌≤◌, ℕ, List, Some, IsNone};
 ghost use Rattle.pv_script.specs.Calm.{calm_held, calm_written};
 ghost use Rattle.pv_serve.specs.Words.{texts};
-ghost use Rattle.pv_serve.specs.Outside.{sunk};
+ghost use Rattle.pv_serve.specs.Outside.{sink_change};
 ghost use Rattle.pv_serve.specs.Replies.{ReplyCall, Replied, SomeReply, IsReplied};
 ghost use Rattle.pv_suite.specs.Words.{list_of};
 ghost use Rattle.pv_suite.specs.Causes.{service};
@@ -33,7 +33,7 @@ pub fn suite<F: Files, R: Sink>(
       held = F.held files.old;
       faults_old = F.faults files.old;
       faults_new = F.faults files.new;
-      report = sunk R.written R.faults report.old report.new;
+      report = sink_change R.written R.faults report.old report.new;
       status = result;
     } in Replied service call }
     ensures files_same { (n : List ℕ) → F.held files.new n ≡ F.held files.old n }
@@ -50,7 +50,7 @@ pub fn suite<F: Files, R: Sink>(
 // Answers the list in a file.
 fn suite_in<F: Files, R: Sink>(alloc: Global, name: &str, files: &mut F, report: &mut R) -> u8
     ensures served { ListServed name.now (F.held files.old) (F.faults files.old) (F.faults files.new)
-        (sunk R.written R.faults report.old report.new) result }
+        (sink_change R.written R.faults report.old report.new) result }
     ensures files_same { (n : List ℕ) → F.held files.new n ≡ F.held files.old n }
 {
     match read_all(alloc, files, name, LIST_LIMIT) {
@@ -63,7 +63,7 @@ fn suite_in<F: Files, R: Sink>(alloc: Global, name: &str, files: &mut F, report:
 // Answers a list.
 fn suite_of<F: Files, R: Sink>(alloc: Global, list: &[u8], files: &mut F, report: &mut R) -> u8
     ensures served { ReadServed list.now (F.held files.old) (F.faults files.old) (F.faults files.new)
-        (sunk R.written R.faults report.old report.new) result }
+        (sink_change R.written R.faults report.old report.new) result }
     ensures files_same { (n : List ℕ) → F.held files.new n ≡ F.held files.old n }
     ensures later { (n : List ℕ) → F.faults files.old n ≤ F.faults files.new n }
 {
@@ -86,7 +86,7 @@ pub fn suite_calmly(
       held = λ n. Some (calm_held files.old n);
       faults_old = λ _. 0;
       faults_new = λ _. 0;
-      report = sunk calm_written (λ _. 0) report.old report.new;
+      report = sink_change calm_written (λ _. 0) report.old report.new;
       status = result;
     } in (result ≡ 13) ⊎ SomeReply service call (IsReplied call) }
 {

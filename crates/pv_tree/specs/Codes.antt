@@ -103,14 +103,14 @@ mutual
 abbrev pub steps : Tree → List Step
 steps t = tree_steps t []
 
-abbrev pub made : List Step → Tree
-made ss = tree_of (run ss [])
+abbrev pub tree_by_steps : List Step → Tree
+tree_by_steps ss = tree_of (run ss [])
 
-pub made_again : (t : Tree) → made (steps t) ≡ t
+pub made_again : (t : Tree) → tree_by_steps (steps t) ≡ t
 made_again t = ap tree_of (tree_made t [] [])
 
 -- the code of a unit's tables, by that of a step and that of a node's number
 abbrev pub tables_code : Coded Step → Coded NodeId → Coded Tables
 tables_code step node =
-    code_by (List Tree × (List (List NodeId) × List NodeId)) (coded× (coded_list (code_by (List Step) (coded_list step) steps made made_again)) (coded× (coded_list (coded_list node)) (coded_list node)))
+    code_by (List Tree × (List (List NodeId) × List NodeId)) (coded× (coded_list (code_by (List Step) (coded_list step) steps tree_by_steps made_again)) (coded× (coded_list (coded_list node)) (coded_list node)))
     (λ u. (u.forest.trees, (u.forest.lists, u.externals))) (λ p. record { forest = record { trees = p.0; lists = p.1.0 }; externals = p.1.1 }) (λ _. refl)

@@ -6,7 +6,7 @@ use Rattle.pv_typed.specs.declared.nodes.Typed.{Typed}
 use Rattle.pv_typed.specs.declared.rows.Row.{Row}
 use Rattle.pv_typed.specs.declared.rows.What.{What}
 use Rattle.pv_typed.specs.declared.rows.What.TheVariants as what
-use Rattle.pv_typed.specs.Plain.{turns_of, capped, plain_turns}
+use Rattle.pv_typed.specs.Plain.{turns_of, turns_within, plain_turns}
 use Rattle.pv_typed.specs.Nodes.{Tree, what_in, as_expression}
 use Rattle.pv_typed.specs.Children.{is_expression, row_at, HasKind, HasChildren}
 use Rattle.pv_typed.specs.Turns.{kept_in, turns_kept, HasTurns}
@@ -25,9 +25,9 @@ module _ (s : Stored) where
       → kept_in w ≡ plain_turns (as_expression (what_in (base s) (nodes s) line w))
   row_turns line count (what.Expression x t counts plain) h k e before =
       e
-      ∙ ap capped (turns_same (λ n. plain_turns (expression_at s n)) (turns_kept s.rows) (HasKind s.rows count true) before counts x h.0)
+      ∙ ap turns_within (turns_same (λ n. plain_turns (expression_at s n)) (turns_kept s.rows) (HasKind s.rows count true) before counts x h.0)
       ∙ turns_capped (λ n. turns_of (expression_at s n)) counts x
-      ∙ ap capped (turns_formed s.lists (nodes s) counts x)
+      ∙ ap turns_within (turns_formed s.lists (nodes s) counts x)
   row_turns line count (what.Statement x declared) h k e before = absurd cc
 
   turns_upto : IsFormed s → (count : ℕ) (n : NodeId) → count ≤ length s.rows → HasKind s.rows count true n → Shown n

@@ -5,7 +5,7 @@ use Rattle.pv_num.specs.declared.operators.BinOp.TheVariants as operator
 use Rattle.pv_types.specs.Ty.{Ty, IntTy, PointerTo, ArrayOf, StructTag}
 use Rattle.pv_typed.specs.declared.nodes.IncrementOperator.TheVariants as step
 use Rattle.pv_typed.specs.TypedTree.{TypedTree, Node, Form, Constant, Object, Call, Subscript, Member, Address, Indirection, Increment, Arithmetic, PointerEquality, LogicalAnd, Conditional, Assign, Comma, Read, ArrayPointer, Convert, NoArguments}
-use Rattle.pv_typed.specs.Plain.{plain_turns, capped}
+use Rattle.pv_typed.specs.Plain.{plain_turns, turns_within}
 
 abbrev int : Form → TypedTree
 int x = Node (IntTy kind.Int) 1 true x
@@ -63,5 +63,5 @@ pub plain_rows : AreTurns (
 plain_rows = refl
 
 -- 1000 turns, and one more
-pub capped_rows : map capped (Some 1000 ∷ Some 1001 ∷ None ∷ []) ≡ Some 1000 ∷ None ∷ None ∷ []
+pub capped_rows : map turns_within (Some 1000 ∷ Some 1001 ∷ None ∷ []) ≡ Some 1000 ∷ None ∷ None ∷ []
 capped_rows = refl

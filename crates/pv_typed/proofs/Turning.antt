@@ -4,7 +4,7 @@ use Rattle.std.proofs.lemmas.Bool.Decides.{nat_tests}
 use Rattle.pv_tree.specs.declared.nodes.NodeId.{NodeId}
 use Rattle.pv_typed.specs.declared.nodes.Typed.{Typed}
 use Rattle.pv_typed.specs.declared.nodes.Typed.TheVariants as typed
-use Rattle.pv_typed.specs.Plain.{counted, both, turns_of, turns_of_form, capped}
+use Rattle.pv_typed.specs.Plain.{with_own_turn, sum_of_turns, turns_of, turns_of_form, turns_within}
 use Rattle.pv_typed.specs.Nodes.{Tree, expression_in, form_in}
 use Rattle.pv_typed.specs.Children.{operands}
 use Rattle.pv_typed.specs.Known.{Each}
@@ -22,14 +22,14 @@ module _ (f g : NodeId → Option ℕ) (P : NodeId → Type 0) (same : (n : Node
   turns_same counts (typed.Read a) h = same a h.0
   turns_same counts (typed.ArrayPointer a) h = same a h.0
   turns_same counts (typed.Convert a) h = same a h.0
-  turns_same counts (typed.Indirection a) h = ap (counted counts) (same a h.0)
+  turns_same counts (typed.Indirection a) h = ap (with_own_turn counts) (same a h.0)
   turns_same counts (typed.Subscript a b) h = rw (same a h.0, same b h.1.0) refl
-  turns_same counts (typed.Member a offset) h = ap (counted true) (same a h.0)
-  turns_same counts (typed.Arrow a offset) h = ap (counted true) (same a h.0)
-  turns_same counts (typed.Address a) h = ap (counted true) (same a h.0)
-  turns_same counts (typed.Unary op a) h = ap (counted true) (same a h.0)
-  turns_same counts (typed.Not a) h = ap (counted true) (same a h.0)
-  turns_same counts (typed.Cast a) h = ap (counted true) (same a h.0)
+  turns_same counts (typed.Member a offset) h = ap (with_own_turn true) (same a h.0)
+  turns_same counts (typed.Arrow a offset) h = ap (with_own_turn true) (same a h.0)
+  turns_same counts (typed.Address a) h = ap (with_own_turn true) (same a h.0)
+  turns_same counts (typed.Unary op a) h = ap (with_own_turn true) (same a h.0)
+  turns_same counts (typed.Not a) h = ap (with_own_turn true) (same a h.0)
+  turns_same counts (typed.Cast a) h = ap (with_own_turn true) (same a h.0)
   turns_same counts (typed.Arithmetic op a b) h = rw (same a h.0, same b h.1.0) refl
   turns_same counts (typed.PointerSum sign a b) h = rw (same a h.0, same b h.1.0) refl
   turns_same counts (typed.PointerDifference a b) h = rw (same a h.0, same b h.1.0) refl
@@ -54,52 +54,52 @@ module _ (f g : NodeId → Option ℕ) (P : NodeId → Type 0) (same : (n : Node
 past : (m n : ℕ) → m ≤ n → nat_le m 1000 ≡ false → nat_le n 1000 ≡ false
 past m n le e = grind (arith, nat_tests)
 
-capped_past : (m n : ℕ) → m ≤ n → nat_le m 1000 ≡ false → capped (Some n) ≡ None
+capped_past : (m n : ℕ) → m ≤ n → nat_le m 1000 ≡ false → turns_within (Some n) ≡ None
 capped_past m n le e = ap (λ b. if b then Some n else None) (past m n le e)
 
-capped_again : (n : Option ℕ) → capped (capped n) ≡ capped n
+capped_again : (n : Option ℕ) → turns_within (turns_within n) ≡ turns_within n
 capped_again None = refl
 capped_again (Some n) = by (nat_le n 1000) refl
   where
-    by : (b : Bool) → nat_le n 1000 ≡ b → capped (if b then Some n else None) ≡ (if b then Some n else None)
+    by : (b : Bool) → nat_le n 1000 ≡ b → turns_within (if b then Some n else None) ≡ (if b then Some n else None)
     by true e = ap (λ b. if b then Some n else None) e
     by false e = refl
 
-pub counted_none : (counts : Bool) → counted counts None ≡ None
+pub counted_none : (counts : Bool) → with_own_turn counts None ≡ None
 counted_none false = refl
 counted_none true = refl
 
-capped_one : (counts : Bool) (n : Option ℕ) → capped (counted counts (capped n)) ≡ capped (counted counts n)
+capped_one : (counts : Bool) (n : Option ℕ) → turns_within (with_own_turn counts (turns_within n)) ≡ turns_within (with_own_turn counts n)
 capped_one false n = capped_again n
 capped_one true None = refl
 capped_one true (Some n) = by (nat_le n 1000) refl
   where
-    by : (b : Bool) → nat_le n 1000 ≡ b → capped (counted true (if b then Some n else None)) ≡ capped (Some (n + 1))
+    by : (b : Bool) → nat_le n 1000 ≡ b → turns_within (with_own_turn true (if b then Some n else None)) ≡ turns_within (Some (n + 1))
     by true e = refl
     by false e = sym (capped_past n (n + 1) (omega arith) e)
 
-capped_both : (m n : Option ℕ) → capped (both (capped m) (capped n)) ≡ capped (both m n)
+capped_both : (m n : Option ℕ) → turns_within (sum_of_turns (turns_within m) (turns_within n)) ≡ turns_within (sum_of_turns m n)
 capped_both None n = refl
 capped_both (Some m) None = by (nat_le m 1000)
   where
-    by : (b : Bool) → capped (both (if b then Some m else None) None) ≡ None
+    by : (b : Bool) → turns_within (sum_of_turns (if b then Some m else None) None) ≡ None
     by true = refl
     by false = refl
 capped_both (Some m) (Some n) = by (nat_le m 1000) (nat_le n 1000) refl refl
   where
-    by : (b d : Bool) → nat_le m 1000 ≡ b → nat_le n 1000 ≡ d → capped (both (if b then Some m else None) (if d then Some n else None)) ≡ capped (Some (m + n))
+    by : (b d : Bool) → nat_le m 1000 ≡ b → nat_le n 1000 ≡ d → turns_within (sum_of_turns (if b then Some m else None) (if d then Some n else None)) ≡ turns_within (Some (m + n))
     by true true e f = refl
     by true false e f = sym (capped_past n (m + n) (omega arith) f)
     by false d e f = sym (capped_past m (m + n) (omega arith) e)
 
-capped_two : (counts : Bool) (m n : Option ℕ) → capped (counted counts (both (capped m) (capped n))) ≡ capped (counted counts (both m n))
+capped_two : (counts : Bool) (m n : Option ℕ) → turns_within (with_own_turn counts (sum_of_turns (turns_within m) (turns_within n))) ≡ turns_within (with_own_turn counts (sum_of_turns m n))
 capped_two counts m n =
-    sym (capped_one counts (both (capped m) (capped n)))
-    ∙ ap (λ o. capped (counted counts o)) (capped_both m n)
-    ∙ capped_one counts (both m n)
+    sym (capped_one counts (sum_of_turns (turns_within m) (turns_within n)))
+    ∙ ap (λ o. turns_within (with_own_turn counts o)) (capped_both m n)
+    ∙ capped_one counts (sum_of_turns m n)
 
 module _ (turns : NodeId → Option ℕ) where
-  pub turns_capped : (counts : Bool) (x : Typed) → capped (turns_in (λ n. capped (turns n)) counts x) ≡ capped (turns_in turns counts x)
+  pub turns_capped : (counts : Bool) (x : Typed) → turns_within (turns_in (λ n. turns_within (turns n)) counts x) ≡ turns_within (turns_in turns counts x)
   turns_capped counts (typed.Constant v) = refl
   turns_capped counts (typed.LargeConstant v) = refl
   turns_capped counts (typed.Sizeof v) = refl

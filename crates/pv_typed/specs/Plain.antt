@@ -7,16 +7,16 @@ use Rattle.std.specs.Prelude.{ℕ, ◌+◌, Bool, true, false, nat_le, Option, S
 use Rattle.pv_typed.specs.TypedTree.{TypedTree, Node, Form, Constant, Object, String, Subscript, Member, Arrow, Address, Indirection, Unary, Not, Sizeof, Cast, Arithmetic, PointerSum, PointerDifference, PointerOrder, PointerEquality, Read, ArrayPointer, Convert}
 
 -- with the turn of a node, where it takes one: a helper of sums
-abbrev pub counted : Bool → Option ℕ → Option ℕ
-counted false n = n
-counted true None = None
-counted true (Some n) = Some (n + 1)
+abbrev pub with_own_turn : Bool → Option ℕ → Option ℕ
+with_own_turn false n = n
+with_own_turn true None = None
+with_own_turn true (Some n) = Some (n + 1)
 
 -- the turns of two operands, where both are plain: a helper of sums
-abbrev pub both : Option ℕ → Option ℕ → Option ℕ
-both None n = None
-both (Some m) None = None
-both (Some m) (Some n) = Some (m + n)
+abbrev pub sum_of_turns : Option ℕ → Option ℕ → Option ℕ
+sum_of_turns None n = None
+sum_of_turns (Some m) None = None
+sum_of_turns (Some m) (Some n) = Some (m + n)
 
 abbrev mutual
   -- how many turns a plain expression takes, each node its own
@@ -35,29 +35,29 @@ abbrev mutual
   turns_of_form turn (ArrayPointer a) = turns_of a
   turns_of_form turn (Convert a) = turns_of a
   -- 6.5.3.2p3, p4, 6.5.2.1p2: no turn directly under `&`
-  turns_of_form turn (Indirection a) = counted turn (turns_of a)
-  turns_of_form turn (Subscript a b) = counted turn (both (turns_of a) (turns_of b))
+  turns_of_form turn (Indirection a) = with_own_turn turn (turns_of a)
+  turns_of_form turn (Subscript a b) = with_own_turn turn (sum_of_turns (turns_of a) (turns_of b))
   -- 6.5.2.3, 6.5.3.2, 6.5.3.3, 6.5.4
-  turns_of_form turn (Member a offset) = counted true (turns_of a)
-  turns_of_form turn (Arrow a offset) = counted true (turns_of a)
-  turns_of_form turn (Address a) = counted true (turns_of a)
-  turns_of_form turn (Unary op a) = counted true (turns_of a)
-  turns_of_form turn (Not a) = counted true (turns_of a)
-  turns_of_form turn (Cast a) = counted true (turns_of a)
+  turns_of_form turn (Member a offset) = with_own_turn true (turns_of a)
+  turns_of_form turn (Arrow a offset) = with_own_turn true (turns_of a)
+  turns_of_form turn (Address a) = with_own_turn true (turns_of a)
+  turns_of_form turn (Unary op a) = with_own_turn true (turns_of a)
+  turns_of_form turn (Not a) = with_own_turn true (turns_of a)
+  turns_of_form turn (Cast a) = with_own_turn true (turns_of a)
   -- 6.5.5 to 6.5.12
-  turns_of_form turn (Arithmetic op a b) = counted true (both (turns_of a) (turns_of b))
-  turns_of_form turn (PointerSum sign a b) = counted true (both (turns_of a) (turns_of b))
-  turns_of_form turn (PointerDifference a b) = counted true (both (turns_of a) (turns_of b))
-  turns_of_form turn (PointerOrder op a b) = counted true (both (turns_of a) (turns_of b))
-  turns_of_form turn (PointerEquality op a b) = counted true (both (turns_of a) (turns_of b))
+  turns_of_form turn (Arithmetic op a b) = with_own_turn true (sum_of_turns (turns_of a) (turns_of b))
+  turns_of_form turn (PointerSum sign a b) = with_own_turn true (sum_of_turns (turns_of a) (turns_of b))
+  turns_of_form turn (PointerDifference a b) = with_own_turn true (sum_of_turns (turns_of a) (turns_of b))
+  turns_of_form turn (PointerOrder op a b) = with_own_turn true (sum_of_turns (turns_of a) (turns_of b))
+  turns_of_form turn (PointerEquality op a b) = with_own_turn true (sum_of_turns (turns_of a) (turns_of b))
   turns_of_form turn _ = None
 
 -- a number of turns, where it is at most 1000: no rule of C17
-abbrev pub capped : Option ℕ → Option ℕ
-capped None = None
-capped (Some n) = if nat_le n 1000 then Some n else None
+abbrev pub turns_within : Option ℕ → Option ℕ
+turns_within None = None
+turns_within (Some n) = if nat_le n 1000 then Some n else None
 
 -- how many turns an expression takes, where each of its nodes is plain and they are at most 1000
 -- worked: plain_rows (proofs/PlainExamples)
 abbrev pub plain_turns : TypedTree → Option ℕ
-plain_turns a = capped (turns_of a)
+plain_turns a = turns_within (turns_of a)

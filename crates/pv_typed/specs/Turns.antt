@@ -6,7 +6,7 @@ use Rattle.pv_typed.specs.declared.nodes.Typed.TheVariants as typed
 use Rattle.pv_typed.specs.declared.rows.What.{What}
 use Rattle.pv_typed.specs.declared.rows.What.TheVariants as what
 use Rattle.pv_typed.specs.declared.rows.Row.{Row}
-use Rattle.pv_typed.specs.Plain.{counted, both, capped}
+use Rattle.pv_typed.specs.Plain.{with_own_turn, sum_of_turns, turns_within}
 use Rattle.pv_typed.specs.Children.{row_at}
 
 -- the turns of an expression's node, where those of its operands are given
@@ -19,19 +19,19 @@ turns_in turns counts (typed.String l) = Some 1
 turns_in turns counts (typed.Read a) = turns a
 turns_in turns counts (typed.ArrayPointer a) = turns a
 turns_in turns counts (typed.Convert a) = turns a
-turns_in turns counts (typed.Indirection a) = counted counts (turns a)
-turns_in turns counts (typed.Subscript a b) = counted counts (both (turns a) (turns b))
-turns_in turns counts (typed.Member a offset) = counted true (turns a)
-turns_in turns counts (typed.Arrow a offset) = counted true (turns a)
-turns_in turns counts (typed.Address a) = counted true (turns a)
-turns_in turns counts (typed.Unary op a) = counted true (turns a)
-turns_in turns counts (typed.Not a) = counted true (turns a)
-turns_in turns counts (typed.Cast a) = counted true (turns a)
-turns_in turns counts (typed.Arithmetic op a b) = counted true (both (turns a) (turns b))
-turns_in turns counts (typed.PointerSum sign a b) = counted true (both (turns a) (turns b))
-turns_in turns counts (typed.PointerDifference a b) = counted true (both (turns a) (turns b))
-turns_in turns counts (typed.PointerOrder op a b) = counted true (both (turns a) (turns b))
-turns_in turns counts (typed.PointerEquality op a b) = counted true (both (turns a) (turns b))
+turns_in turns counts (typed.Indirection a) = with_own_turn counts (turns a)
+turns_in turns counts (typed.Subscript a b) = with_own_turn counts (sum_of_turns (turns a) (turns b))
+turns_in turns counts (typed.Member a offset) = with_own_turn true (turns a)
+turns_in turns counts (typed.Arrow a offset) = with_own_turn true (turns a)
+turns_in turns counts (typed.Address a) = with_own_turn true (turns a)
+turns_in turns counts (typed.Unary op a) = with_own_turn true (turns a)
+turns_in turns counts (typed.Not a) = with_own_turn true (turns a)
+turns_in turns counts (typed.Cast a) = with_own_turn true (turns a)
+turns_in turns counts (typed.Arithmetic op a b) = with_own_turn true (sum_of_turns (turns a) (turns b))
+turns_in turns counts (typed.PointerSum sign a b) = with_own_turn true (sum_of_turns (turns a) (turns b))
+turns_in turns counts (typed.PointerDifference a b) = with_own_turn true (sum_of_turns (turns a) (turns b))
+turns_in turns counts (typed.PointerOrder op a b) = with_own_turn true (sum_of_turns (turns a) (turns b))
+turns_in turns counts (typed.PointerEquality op a b) = with_own_turn true (sum_of_turns (turns a) (turns b))
 turns_in turns counts _ = None
 
 -- the turns that a row keeps: an expression's, where it is plain
@@ -45,5 +45,5 @@ turns_kept rows n = kept_in (row_at rows n.0).what
 
 -- a row keeps the turns that follow from the rows of its operands
 abbrev pub HasTurns : List Row → What → Type 0
-HasTurns rows (what.Expression x t counts plain) = plain ≡ capped (turns_in (turns_kept rows) counts x)
+HasTurns rows (what.Expression x t counts plain) = plain ≡ turns_within (turns_in (turns_kept rows) counts x)
 HasTurns rows (what.Statement x declared) = Unit {0}

@@ -6,12 +6,12 @@ ghost use Rattle.pv_types.specs.Ty.{Ty};
 ghost use Rattle.pv_types.specs.Known.{tree, Known};
 ghost use Rattle.pv_typed.specs.TypedTree.{type_of, form_of, is_function};
 ghost use Rattle.pv_typed.specs.TypedUnits.{object_at, literal_at};
-ghost use Rattle.pv_typed.specs.Tables.{Stored, whole};
+ghost use Rattle.pv_typed.specs.Tables.{Stored, whole_unit};
 ghost use Rattle.pv_typed.specs.NodeTrees.{IsExpression, expression_at};
 ghost use Rattle.pv_typed.specs.Known.{AreKnown};
 ghost use Rattle.pv_typed.specs.Constants.{integer};
 ghost use Rattle.pv_typed.specs.Places.{IsNumber, IsPlace, IsDistance};
-ghost use Rattle.pv_typed.specs.Addresses.{size_in, within, moved, signed, stepped, added, null_if, address, place, constant_of, is_null_constant, is_null, truth_in};
+ghost use Rattle.pv_typed.specs.Addresses.{size_in, within, bytes_on, signed_count, elements_on, address_sum, null_if, address, place, constant_of, is_null_constant, is_null, truth_in};
 ghost use Rattle.pv_types.specs.Sorts.{pointed_by, is_pointer};
 ghost use Rattle.pv_typed.specs.AddressParts.{lasting_at, or_zero};
 
@@ -39,7 +39,7 @@ fn pointee(types: &Types, t: TypeId) -> Option<TypeId>
 /// The size of a complete object type, up to the greatest that an object may have.
 fn size_in(u: &TypedUnit, t: TypeId) -> Option<u64>
     requires { t.0 < length u.now.known.terms }
-    ensures value { result ≡ size_in (whole u.now) (tree u.now.known t.0) }
+    ensures value { result ≡ size_in (whole_unit u.now) (tree u.now.known t.0) }
     ensures small { IfSome result (λ n. n ≤ 2 ^ 32) }
 {
     if u.types().is_complete(t) {
@@ -53,7 +53,7 @@ fn size_in(u: &TypedUnit, t: TypeId) -> Option<u64>
 fn bound_at(u: &TypedUnit, o: u32) -> u64
     requires object { o < length u.now.objects }
     requires known { AreKnown u.now }
-    ensures value { result ≡ or_zero (size_in (whole u.now) (object_at (whole u.now) o).t) }
+    ensures value { result ≡ or_zero (size_in (whole_unit u.now) (object_at (whole_unit u.now) o).t) }
     ensures small { result ≤ 2 ^ 32 }
 {
     match size_in(u, u.object(o).t) {
@@ -82,7 +82,7 @@ fn moved(u: &TypedUnit, by: i128, p: Const) -> Option<Const>
     requires known { AreKnown u.now }
     requires there { IsPlace u.now p }
     requires far { IsDistance by }
-    ensures value { result ≡ moved (whole u.now) by p }
+    ensures value { result ≡ bytes_on (whole_unit u.now) by p }
     ensures there { IfSome result (λ q. IsPlace u.now q) }
 {
     match p {
@@ -119,7 +119,7 @@ fn times(i: i128, size: u64) -> i128
 /// An integer, or its negative.
 fn signed(sign: Sign, i: i128) -> i128
     requires { IsNumber i }
-    ensures value { result ≡ signed sign i }
+    ensures value { result ≡ signed_count sign i }
     ensures far { (neg_ℤ (pos (2 ^ 64 - 1)) ≤ℤ result) × (result ≤ℤ pos (2 ^ 64 - 1)) }
 {
     match sign {
@@ -134,7 +134,7 @@ fn stepped(u: &TypedUnit, sign: Sign, t: TypeId, p: Const, i: i128) -> Option<Co
     requires typed { t.0 < length u.now.known.terms }
     requires there { IsPlace u.now p }
     requires number { IsNumber i }
-    ensures value { result ≡ stepped (whole u.now) sign (tree u.now.known t.0) (Some p) (Some i) }
+    ensures value { result ≡ elements_on (whole_unit u.now) sign (tree u.now.known t.0) (Some p) (Some i) }
     ensures there { IfSome result (λ q. IsPlace u.now q) }
 {
     let n = size_in(u, t)?;
@@ -153,7 +153,7 @@ fn null_if(n: Option<i128>) -> Option<Const>
 /// The address of an object with static storage.
 fn lasting_at(u: &TypedUnit, o: u32) -> Option<Const>
     requires { o < length u.now.objects }
-    ensures value { result ≡ lasting_at (whole u.now) o }
+    ensures value { result ≡ lasting_at (whole_unit u.now) o }
     ensures there { IfSome result (λ q. IsPlace u.now q) }
 {
     if u.object(o).lasting {
@@ -189,7 +189,7 @@ fn is_function_at(u: &TypedUnit, e: NodeId) -> bool
 fn address(u: &TypedUnit, e: NodeId) -> Option<Const>
     requires node { IsExpression u.now e }
     requires known { AreKnown u.now }
-    ensures value { result ≡ address (whole u.now) (expression_at u.now e) }
+    ensures value { result ≡ address (whole_unit u.now) (expression_at u.now e) }
     ensures there { IfSome result (λ q. IsPlace u.now q) }
 {
     match u.node(e) {
@@ -225,7 +225,7 @@ fn address(u: &TypedUnit, e: NodeId) -> Option<Const>
 fn place(u: &TypedUnit, e: NodeId) -> Option<Const>
     requires node { IsExpression u.now e }
     requires known { AreKnown u.now }
-    ensures value { result ≡ place (whole u.now) (expression_at u.now e) }
+    ensures value { result ≡ place (whole_unit u.now) (expression_at u.now e) }
     ensures there { IfSome result (λ q. IsPlace u.now q) }
 {
     match u.node(e) {
@@ -266,7 +266,7 @@ fn place(u: &TypedUnit, e: NodeId) -> Option<Const>
 fn truth_in(u: &TypedUnit, e: NodeId) -> Option<Const>
     requires node { IsExpression u.now e }
     requires known { AreKnown u.now }
-    ensures { result ≡ truth_in (whole u.now) (type_of (expression_at u.now e)) (form_of (expression_at u.now e)) }
+    ensures { result ≡ truth_in (whole_unit u.now) (type_of (expression_at u.now e)) (form_of (expression_at u.now e)) }
 {
     match u.types().view(u.type_of(e)) {
         Term::Int(IntKind::Bool) => {}
@@ -288,7 +288,7 @@ fn truth_in(u: &TypedUnit, e: NodeId) -> Option<Const>
 pub fn constant(u: &TypedUnit, e: NodeId) -> Option<Const>
     requires node { IsExpression u.now e }
     requires known { AreKnown u.now }
-    ensures { result ≡ constant_of (whole u.now) (expression_at u.now e) }
+    ensures { result ≡ constant_of (whole_unit u.now) (expression_at u.now e) }
 {
     if kind_at(u, e).is_some() {
         if let Some(n) = integer(u, e) {

@@ -1,6 +1,6 @@
 // Plain expressions: how many turns they take, kept with each node as it is added.
 ghost use Rattle.std.specs.Prelude.{◌≡◌, ◌<◌, ◌+◌, Some, length};
-ghost use Rattle.pv_typed.specs.Plain.{counted, both, capped, plain_turns};
+ghost use Rattle.pv_typed.specs.Plain.{with_own_turn, sum_of_turns, turns_within, plain_turns};
 ghost use Rattle.pv_typed.specs.Children.{HasOperands};
 ghost use Rattle.pv_typed.specs.Turns.{turns_in, turns_kept};
 ghost use Rattle.pv_typed.specs.NodeTrees.{IsExpression, expression_at};
@@ -15,7 +15,7 @@ const LIMIT: u32 = 1000;
 
 /// A number of turns, where it is at most the limit.
 fn capped(turns: u32) -> Option<u16>
-    ensures { result ≡ capped (Some turns) }
+    ensures { result ≡ turns_within (Some turns) }
 {
     if turns <= LIMIT {
         Some(turns as u16)
@@ -27,7 +27,7 @@ fn capped(turns: u32) -> Option<u16>
 /// The turns of a node with one operand.
 #[tactic(auto, using(crate::proofs::Turning::counted_none))]
 fn one(counts: bool, a: Option<u16>) -> Option<u16>
-    ensures { result ≡ capped (counted counts a) }
+    ensures { result ≡ turns_within (with_own_turn counts a) }
 {
     let below = a? as u32;
     if counts {
@@ -40,7 +40,7 @@ fn one(counts: bool, a: Option<u16>) -> Option<u16>
 /// The turns of a node with two operands.
 #[tactic(auto, using(crate::proofs::Turning::counted_none))]
 fn two(counts: bool, a: Option<u16>, b: Option<u16>) -> Option<u16>
-    ensures { result ≡ capped (counted counts (both a b)) }
+    ensures { result ≡ turns_within (with_own_turn counts (sum_of_turns a b)) }
 {
     let left = a? as u32;
     let right = b? as u32;
@@ -82,7 +82,7 @@ impl TypedUnit {
     #[inline(always)]
     pub(crate) fn turns_with(&self, x: Typed, counts: bool) -> Option<u16>
         requires { HasOperands self.now.rows self.now.lists (length self.now.rows) x }
-        ensures { result ≡ capped (turns_in (turns_kept self.now.rows) counts x) }
+        ensures { result ≡ turns_within (turns_in (turns_kept self.now.rows) counts x) }
     {
         match x {
             Typed::Constant(_) | Typed::LargeConstant(_) | Typed::Sizeof(_) => Some(1),

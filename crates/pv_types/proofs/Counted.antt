@@ -2,16 +2,16 @@
 use Rattle.std.proofs.Common.{◌≡◌, ℕ, zero, suc, ◌+◌, ◌*◌, ◌<◌, ◌≤◌, Bool, true, false, List, [], ◌∷◌, Some, length, length-append, refl, ap, arith}
 use Rattle.std.specs.Int.{next_multiple_of}
 use Rattle.pv_types.specs.Ty.{Ty, ArrayOf}
-use Rattle.pv_types.specs.Layouts.{Part, Layout, Entry, Named, shifted, repeated, const_layout, layout_in, layout_of}
+use Rattle.pv_types.specs.Layouts.{Part, Layout, Entry, Named, shifted_parts, parts_of_elements, const_layout, layout_in, layout_of}
 use Rattle.pv_types.specs.LayoutParts.{part_count, union_parts, struct_parts, behind_whole}
 
-count_shifted : (k : ℕ) (ps : List Part) → length (shifted k ps) ≡ length ps
+count_shifted : (k : ℕ) (ps : List Part) → length (shifted_parts k ps) ≡ length ps
 count_shifted k [] = refl
 count_shifted k (p ∷ ps) = ap suc (count_shifted k ps)
 
-count_repeated : (n s : ℕ) (ps : List Part) → length ps ≤ length (repeated (suc n) s ps)
+count_repeated : (n s : ℕ) (ps : List Part) → length ps ≤ length (parts_of_elements (suc n) s ps)
 count_repeated n s ps =
-    let all : length (repeated (suc n) s ps) ≡ length (repeated n s ps) + length (shifted (n * s) ps) = length-append (repeated n s ps) (shifted (n * s) ps) in
+    let all : length (parts_of_elements (suc n) s ps) ≡ length (parts_of_elements n s ps) + length (shifted_parts (n * s) ps) = length-append (parts_of_elements n s ps) (shifted_parts (n * s) ps) in
     let last = count_shifted (n * s) ps in
     omega (arith, all, last)
 
@@ -28,7 +28,7 @@ AreFewer env h (m ∷ ms) = (part_count (layout_in env m.t) < h) × AreFewer env
 struct_fewer : (env : List Entry) (ms : List Named) (o h : ℕ) → length (struct_parts env ms o) < h → AreFewer env h ms
 struct_fewer env [] o h lt = tt
 struct_fewer env (m ∷ ms) o h lt =
-    let first = shifted (next_multiple_of o (layout_in env m.t).align) (layout_in env m.t).parts in
+    let first = shifted_parts (next_multiple_of o (layout_in env m.t).align) (layout_in env m.t).parts in
     let others = struct_parts env ms (next_multiple_of o (layout_in env m.t).align + (layout_in env m.t).size) in
     let all : length (struct_parts env (m ∷ ms) o) ≡ length first + length others = length-append first others in
     let same = count_shifted (next_multiple_of o (layout_in env m.t).align) (layout_in env m.t).parts in
@@ -37,7 +37,7 @@ struct_fewer env (m ∷ ms) o h lt =
 union_fewer : (env : List Entry) (ms : List Named) (h : ℕ) → length (union_parts env ms) < h → AreFewer env h ms
 union_fewer env [] h lt = tt
 union_fewer env (m ∷ ms) h lt =
-    let first = shifted 0 (layout_in env m.t).parts in
+    let first = shifted_parts 0 (layout_in env m.t).parts in
     let all : length (union_parts env (m ∷ ms)) ≡ length first + length (union_parts env ms) = length-append first (union_parts env ms) in
     let same = count_shifted 0 (layout_in env m.t).parts in
     (omega (arith, lt, all, same), union_fewer env ms h (omega (arith, lt, all)))

@@ -10,7 +10,7 @@ use Rattle.pv_types.specs.declared.compatibility.Qualifier.TheVariants.{Unqualif
 use Rattle.pv_types.specs.Ty.{Ty, Tys, MoreTys, VoidTy, IntTy, PointerTo, ArrayOf, StructTag, UnionTag, FunctionTy, ConstOf}
 use Rattle.pv_types.specs.Layouts.{Entry, look, layout_in, is_complete_in}
 use Rattle.pv_types.specs.LayoutParts.{or_none}
-use Rattle.pv_types.specs.Compatible.{are_compatible, forms_of, all_alike, Form, VoidForm, IntForm, PointerForm, ArrayForm, StructForm, UnionForm, FunctionForm, form_of, alike, sizes_agree, same_kind, with_const, of_elements}
+use Rattle.pv_types.specs.Compatible.{are_compatible, forms_of, all_alike, Form, VoidForm, IntForm, PointerForm, ArrayForm, StructForm, UnionForm, FunctionForm, form_of, same_form, sizes_agree, same_kind, with_const, of_elements}
 use Rattle.pv_types.specs.Matching.{Matches, MatchAll}
 use Rattle.pv_types.proofs.Fills.{left_true, right_true}
 
@@ -58,13 +58,13 @@ complete_form env q (ConstOf t) h = complete_form env (with_const q) t h
 kinds_equal : (k l : IntKind) → same_kind k l ≡ true → k ≡ l
 kinds_equal k l h = search rules
 
-alike_size : (env : List Entry) (f g : Form) → alike f g ≡ true → form_complete env f ≡ true → form_complete env g ≡ true → form_size env f ≡ form_size env g
+alike_size : (env : List Entry) (f g : Form) → same_form f g ≡ true → form_complete env f ≡ true → form_complete env g ≡ true → form_size env f ≡ form_size env g
 alike_size env (VoidForm c) (VoidForm d) h a b = refl
 alike_size env (IntForm c k) (IntForm d l) h a b = ap (λ (x : IntKind). width x / 8) (kinds_equal k l (right_true (beq c d) _ h))
 alike_size env (PointerForm c f) (PointerForm d g) h a b = refl
 alike_size env (ArrayForm f (Some m)) (ArrayForm g (Some n)) h a b =
-    let count : m ≡ n = eqb-true m n (left_true (m == n) (alike f g) h) in
-    let one : form_size env f ≡ form_size env g = alike_size env f g (right_true (m == n) (alike f g) h) (right_true (nat_lt 0 m) _ a) (right_true (nat_lt 0 n) _ b) in
+    let count : m ≡ n = eqb-true m n (left_true (m == n) (same_form f g) h) in
+    let one : form_size env f ≡ form_size env g = alike_size env f g (right_true (m == n) (same_form f g) h) (right_true (nat_lt 0 m) _ a) (right_true (nat_lt 0 n) _ b) in
     rw (count, one) refl
 alike_size env (ArrayForm f None) (ArrayForm g n) h a b = absurd cc
 alike_size env (ArrayForm f (Some m)) (ArrayForm g None) h a b = absurd cc
@@ -87,13 +87,13 @@ pub matching_array : (t u : Ty) (m n : Option ℕ) → Matches (ArrayOf t m) (Ar
 matching_array t u m n h = record { left = of_elements h.left; right = of_elements h.right; same = right_true (sizes_agree m n) _ h.same }
 
 pub matching_result : (t u : Ty) (ts us : Tys) (v w : Bool) → Matches (FunctionTy t ts v) (FunctionTy u us w) → Matches t u
-matching_result t u ts us v w h = record { left = Unqualified; right = Unqualified; same = right_true (all_alike (forms_of ts) (forms_of us)) _ (right_true _ (all_alike (forms_of ts) (forms_of us) && alike (form_of Unqualified t) (form_of Unqualified u)) h.same) }
+matching_result t u ts us v w h = record { left = Unqualified; right = Unqualified; same = right_true (all_alike (forms_of ts) (forms_of us)) _ (right_true _ (all_alike (forms_of ts) (forms_of us) && same_form (form_of Unqualified t) (form_of Unqualified u)) h.same) }
 
 pub matching_parameters : (t u : Ty) (ts us : Tys) (v w : Bool) → Matches (FunctionTy t ts v) (FunctionTy u us w) → MatchAll ts us
-matching_parameters t u ts us v w h = left_true (all_alike (forms_of ts) (forms_of us)) _ (right_true _ (all_alike (forms_of ts) (forms_of us) && alike (form_of Unqualified t) (form_of Unqualified u)) h.same)
+matching_parameters t u ts us v w h = left_true (all_alike (forms_of ts) (forms_of us)) _ (right_true _ (all_alike (forms_of ts) (forms_of us) && same_form (form_of Unqualified t) (form_of Unqualified u)) h.same)
 
 pub matching_first : (t u : Ty) (ts us : Tys) → MatchAll (MoreTys t ts) (MoreTys u us) → Matches t u
 matching_first t u ts us h = record { left = Ignored; right = Ignored; same = left_true _ (all_alike (forms_of ts) (forms_of us)) h }
 
 pub matching_rest : (t u : Ty) (ts us : Tys) → MatchAll (MoreTys t ts) (MoreTys u us) → MatchAll ts us
-matching_rest t u ts us h = right_true (alike (form_of Ignored t) (form_of Ignored u)) _ h
+matching_rest t u ts us h = right_true (same_form (form_of Ignored t) (form_of Ignored u)) _ h

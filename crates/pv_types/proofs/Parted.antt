@@ -5,7 +5,7 @@ use Rattle.pv_types.specs.declared.terms.Member.{Member}
 use Rattle.pv_types.specs.Ty.{Ty, ArrayOf}
 use Rattle.pv_types.specs.Known.{Known, tree, trees, env, named_in}
 use Rattle.pv_types.specs.Formed.{MembersBelow}
-use Rattle.pv_types.specs.Layouts.{Entry, Part, Named, layout_in, layout_of, shifted, repeated}
+use Rattle.pv_types.specs.Layouts.{Entry, Part, Named, layout_in, layout_of, shifted_parts, parts_of_elements}
 use Rattle.pv_types.specs.LayoutParts.{union_parts, struct_parts}
 use Rattle.pv_types.specs.Qualifiers.{is_const, has_const}
 use Rattle.pv_types.specs.QualifierParts.{some_const}
@@ -22,16 +22,16 @@ const_append : (ps qs : List Part) → some_const (ps ++ qs) ≡ (some_const ps 
 const_append [] qs = refl
 const_append (p ∷ ps) qs = rw (const_append ps qs) (sym (or_assoc (is_const p.t) (some_const ps) (some_const qs)))
 
-const_shifted : (k : ℕ) (ps : List Part) → some_const (shifted k ps) ≡ some_const ps
+const_shifted : (k : ℕ) (ps : List Part) → some_const (shifted_parts k ps) ≡ some_const ps
 const_shifted k [] = refl
 const_shifted k (p ∷ ps) = ap (λ b. is_const p.t || b) (const_shifted k ps)
 
 -- elements have what one of them has
-const_repeated : (n size : ℕ) (ps : List Part) → some_const (repeated (suc n) size ps) ≡ some_const ps
+const_repeated : (n size : ℕ) (ps : List Part) → some_const (parts_of_elements (suc n) size ps) ≡ some_const ps
 const_repeated zero size ps = const_shifted (zero * size) ps
 const_repeated (suc n) size ps =
-    const_append (repeated (suc n) size ps) (shifted (suc n * size) ps)
-    ∙ ap (λ b. b || some_const (shifted (suc n * size) ps)) (const_repeated n size ps)
+    const_append (parts_of_elements (suc n) size ps) (shifted_parts (suc n * size) ps)
+    ∙ ap (λ b. b || some_const (shifted_parts (suc n * size) ps)) (const_repeated n size ps)
     ∙ ap (λ b. some_const ps || b) (const_shifted (suc n * size) ps)
     ∙ or_same (some_const ps)
 
@@ -43,14 +43,14 @@ any_const env (m ∷ ms) = has_const env m.t || any_const env ms
 const_union : (env : List Entry) (ms : List Named) → some_const (union_parts env ms) ≡ any_const env ms
 const_union env [] = refl
 const_union env (m ∷ ms) =
-    const_append (shifted 0 (layout_in env m.t).parts) (union_parts env ms)
+    const_append (shifted_parts 0 (layout_in env m.t).parts) (union_parts env ms)
     ∙ ap (λ b. b || some_const (union_parts env ms)) (const_shifted 0 (layout_in env m.t).parts)
     ∙ ap (λ b. has_const env m.t || b) (const_union env ms)
 
 const_struct : (env : List Entry) (ms : List Named) (o : ℕ) → some_const (struct_parts env ms o) ≡ any_const env ms
 const_struct env [] o = refl
 const_struct env (m ∷ ms) o =
-    const_append (shifted (next_multiple_of o (layout_in env m.t).align) (layout_in env m.t).parts) _
+    const_append (shifted_parts (next_multiple_of o (layout_in env m.t).align) (layout_in env m.t).parts) _
     ∙ ap (λ b. b || some_const (struct_parts env ms (next_multiple_of o (layout_in env m.t).align + (layout_in env m.t).size))) (const_shifted _ (layout_in env m.t).parts)
     ∙ ap (λ b. has_const env m.t || b) (const_struct env ms (next_multiple_of o (layout_in env m.t).align + (layout_in env m.t).size))
 

@@ -7,7 +7,7 @@ use Rattle.pv_types.specs.Ty.{Ty, IntTy, ArrayOf, ConstOf}
 use Rattle.pv_types.specs.Layouts.{Part, Entry, Named, look, layout_in, layout_of, is_complete_in, tag_type}
 use Rattle.pv_types.specs.LayoutParts.{or_none, behind_whole}
 use Rattle.pv_types.specs.Known.{Known, tree, trees, tree_in, env}
-use Rattle.pv_types.specs.Formed.{term_at, IsTagged, named, is_union_in, IsBuilt}
+use Rattle.pv_types.specs.Formed.{term_at, IsTagged, named_members, is_union_in, IsBuilt}
 use Rattle.pv_types.proofs.Made.{made, flag}
 
 -- the parts of the elements or members
@@ -22,8 +22,8 @@ tag_whole : (env : List Entry) (n : ℕ) (u : Bool) (ms : List Named) → or_non
     → (or_none (look env n)).parts ≡ record { offset = 0; t = tag_type u n } ∷ behind_whole (or_none (look env n)).parts
 tag_whole env n u ms is = rw is refl
 
-laid : (m : Known) (n : ℕ) (u : Bool) → IsBuilt m → IsTrue (is_some (look (env m) n)) → is_union_in m.done n ≡ u → or_none (look (env m) n) ≡ layout_of (env m) n u (named m n)
-laid m n u built there flag = ap or_none (made m n built there).laid ∙ ap (λ b. layout_of (env m) n b (named m n)) flag
+laid : (m : Known) (n : ℕ) (u : Bool) → IsBuilt m → IsTrue (is_some (look (env m) n)) → is_union_in m.done n ≡ u → or_none (look (env m) n) ≡ layout_of (env m) n u (named_members m n)
+laid m n u built there flag = ap or_none (made m n built there).laid ∙ ap (λ b. layout_of (env m) n b (named_members m n)) flag
 
 term_whole : (m : Known) (term : Term) → IsBuilt m → IsTagged m.tags term → IsTrue (is_complete_in (env m) (tree_in m.lists (trees m) term)) → BeginsWhole (env m) (tree_in m.lists (trees m) term)
 term_whole m Void built tagged complete = cc
@@ -31,8 +31,8 @@ term_whole m (Int k) built tagged complete = refl
 term_whole m (Pointer x) built tagged complete = refl
 term_whole m (Array x None) built tagged complete = cc
 term_whole m (Array x (Some n)) built tagged complete = refl
-term_whole m (Struct n) built tagged complete = tag_whole (env m) n false (named m n) (laid m n false built complete (flag m n built complete ∙ tagged.1))
-term_whole m (Union n) built tagged complete = tag_whole (env m) n true (named m n) (laid m n true built complete (flag m n built complete ∙ tagged.1))
+term_whole m (Struct n) built tagged complete = tag_whole (env m) n false (named_members m n) (laid m n false built complete (flag m n built complete ∙ tagged.1))
+term_whole m (Union n) built tagged complete = tag_whole (env m) n true (named_members m n) (laid m n true built complete (flag m n built complete ∙ tagged.1))
 term_whole m (Function x p v) built tagged complete = cc
 term_whole m (Const x) built tagged complete = refl
 

@@ -146,14 +146,14 @@ is_union_in [] n = false
 is_union_in (d ∷ ds) n = if d.tag == n then d.union else is_union_in ds n
 
 -- 6.7.2.1p8: the members of a tag, with the trees of their types
-abbrev pub named : Known → ℕ → List Named
-named m n = named_in (trees m) (members_in m.done n)
+abbrev pub named_members : Known → ℕ → List Named
+named_members m n = named_in (trees m) (members_in m.done n)
 
 -- 6.7.2.1p3, p15 to p17: the entry of a tag, where it has one, is made of the tag's members, which are known and complete
 pub record IsMade (m : Known) (n : ℕ) : Type 0 where
   pub known : MembersBelow (length m.terms) (members_in m.done n)
-  pub complete : AreComplete (env m) (named m n)
-  pub laid : look (env m) n ≡ Some (layout_of (env m) n (is_union_in m.done n) (named m n))
+  pub complete : AreComplete (env m) (named_members m n)
+  pub laid : look (env m) n ≡ Some (layout_of (env m) n (is_union_in m.done n) (named_members m n))
 
 -- 6.2.5: the table has the same types as before, and may have more
 abbrev pub Extends : Known → Known → Type 0

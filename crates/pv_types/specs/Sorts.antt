@@ -6,9 +6,9 @@ use Rattle.pv_num.specs.Kinds.{is_character_kind}
 use Rattle.pv_types.specs.Ty.{Ty, VoidTy, IntTy, PointerTo, StructTag, UnionTag, ConstOf}
 
 -- 6.2.5p26: the unqualified version of a type: without the qualifiers around it
-abbrev pub bare : Ty → Ty
-bare (ConstOf t) = bare t
-bare t = t
+abbrev pub bare_type : Ty → Ty
+bare_type (ConstOf t) = bare_type t
+bare_type t = t
 
 -- 6.2.5p17: the kind of an integer type without qualifiers
 abbrev pub kind_in : Ty → Option IntKind
@@ -17,7 +17,7 @@ kind_in _ = None
 
 -- 6.2.5p17: the kind of an integer type
 abbrev pub kind_of : Ty → Option IntKind
-kind_of t = kind_in (bare t)
+kind_of t = kind_in (bare_type t)
 
 -- 6.2.5p15: a character type
 abbrev pub is_character : Ty → Bool
@@ -30,7 +30,7 @@ pointed_in _ = None
 
 -- 6.2.5p20: what a pointer type points to
 abbrev pub pointed_by : Ty → Option Ty
-pointed_by t = pointed_in (bare t)
+pointed_by t = pointed_in (bare_type t)
 
 -- 6.2.5p20: a pointer type
 abbrev pub is_pointer : Ty → Bool
@@ -44,7 +44,7 @@ is_scalar_in _ = false
 
 -- 6.2.5p21: the scalar types are the integer and the pointer types
 abbrev pub is_scalar : Ty → Bool
-is_scalar t = is_scalar_in (bare t)
+is_scalar t = is_scalar_in (bare_type t)
 
 -- 6.2.5p19: a type without qualifiers is the void type
 abbrev pub is_void_in : Ty → Bool
@@ -53,7 +53,7 @@ is_void_in _ = false
 
 -- 6.2.5p19: the void type
 abbrev pub is_void : Ty → Bool
-is_void t = is_void_in (bare t)
+is_void t = is_void_in (bare_type t)
 
 -- 6.2.5p20: a type without qualifiers is a structure or union
 abbrev pub is_composite_in : Ty → Bool
@@ -63,4 +63,4 @@ is_composite_in _ = false
 
 -- 6.2.5p20: a structure or a union
 abbrev pub is_composite : Ty → Bool
-is_composite t = is_composite_in (bare t)
+is_composite t = is_composite_in (bare_type t)

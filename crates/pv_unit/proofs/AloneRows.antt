@@ -10,7 +10,7 @@ use Rattle.pv_check.specs.Raw.{Raw}
 use Rattle.pv_check.specs.Open.{state_of}
 use Rattle.pv_check.specs.Specifiers.{Specified as WhatIsSpecified}
 use Rattle.pv_check.specs.State.{After}
-use Rattle.pv_check.specs.Scopes.{innermost}
+use Rattle.pv_check.specs.Scopes.{innermost_scope}
 use Rattle.pv_typed.specs.Constants.{and_then}
 use Rattle.pv_unit.specs.declared.entities.Outer.{Outer}
 use Rattle.pv_unit.specs.Redeclarations.{UnitState}
@@ -30,14 +30,14 @@ alone_if texts b t o u x true e f =
 
 pub file_alone_done : (texts : List (List ℕ)) (specs : Trees) (a b : Stored) (s t : Raw) (o : Outer) (k : ℕ) (r : Bool) (x : WhatIsSpecified)
     → Some (record { value = x; state = state_of texts false t b }) ≡ specified_by specs (state_of texts false s a)
-    → k ≡ bound_in (innermost (state_of texts false s a).scopes)
-    → r ≡ (nat_lt k (bound_in (innermost (state_of texts false t b).scopes)) || has_list specs)
+    → k ≡ bound_in (innermost_scope (state_of texts false s a).scopes)
+    → r ≡ (nat_lt k (bound_in (innermost_scope (state_of texts false t b).scopes)) || has_list specs)
     → unit_if texts t b o r ≡ file_alone None specs (unit_state texts s a o)
 file_alone_done texts specs a b s t o k r x first before whether =
     let u = unit_state texts s a o in
     let after : After WhatIsSpecified = record { value = x; state = state_of texts false t b } in
     alone_if texts b t o u x r refl refl
-    ∙ ap (λ (c : Bool). and_then (if c then Some after else None) (with_state u)) (whether ∙ ap (λ j. nat_lt j (bound_in (innermost (state_of texts false t b).scopes)) || has_list specs) before)
+    ∙ ap (λ (c : Bool). and_then (if c then Some after else None) (with_state u)) (whether ∙ ap (λ j. nat_lt j (bound_in (innermost_scope (state_of texts false t b).scopes)) || has_list specs) before)
     ∙ ap (λ (q : Option (After WhatIsSpecified)). and_then q (λ y. and_then (tags_alone specs u.state y) (with_state u))) first
 
 -- ---- with declarators

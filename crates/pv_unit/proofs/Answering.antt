@@ -6,7 +6,7 @@ use Rattle.pv_tree.specs.Syntax.{DeclarationTree}
 use Rattle.pv_typed.specs.Constants.{and_then}
 use Rattle.pv_unit.specs.Redeclarations.{UnitState}
 use Rattle.pv_unit.specs.Functions.{typed_external}
-use Rattle.pv_unit.specs.Units.{Breaks, Checked, Constraint, IsTyped, NoMain, Typed, UnitComes, Unresolved, finished, first, has_main, typed_first, typed_last, typed_to, unresolved}
+use Rattle.pv_unit.specs.Units.{Breaks, Checked, Constraint, IsTyped, NoMain, Typed, UnitComes, Unresolved, finished_unit, unit_at_first, has_main, typed_first, typed_last, typed_to, first_unresolved}
 use Rattle.pv_unit.proofs.Firsts.{either, to_below, to_whole}
 
 -- ---- fewer declarations have a typing where more have one
@@ -82,38 +82,38 @@ true_false true e f = absurd cc
 true_false false e f = absurd cc
 
 pub one_answer : (t : Table) (ds : List DeclarationTree) (a b : Checked) → UnitComes t ds a → UnitComes t ds b → a ≡ b
-one_answer t ds (Constraint n) (Constraint m) x y = ap Constraint (same_break ds (first t) n m x y (either n m) (either m n))
-one_answer t ds (Constraint n) (Unresolved m) x y = not_both ds (first t) y.0 n x y.1.0
-one_answer t ds (Constraint n) NoMain x y = not_both ds (first t) y.0 n x y.1.0
-one_answer t ds (Constraint n) (Typed w) x y = not_both ds (first t) y.0 n x y.1.0
-one_answer t ds (Unresolved m) (Constraint n) x y = not_both ds (first t) x.0 n y x.1.0
-one_answer t ds NoMain (Constraint n) x y = not_both ds (first t) x.0 n y x.1.0
-one_answer t ds (Typed w) (Constraint n) x y = not_both ds (first t) x.0 n y x.1.0
+one_answer t ds (Constraint n) (Constraint m) x y = ap Constraint (same_break ds (unit_at_first t) n m x y (either n m) (either m n))
+one_answer t ds (Constraint n) (Unresolved m) x y = not_both ds (unit_at_first t) y.0 n x y.1.0
+one_answer t ds (Constraint n) NoMain x y = not_both ds (unit_at_first t) y.0 n x y.1.0
+one_answer t ds (Constraint n) (Typed w) x y = not_both ds (unit_at_first t) y.0 n x y.1.0
+one_answer t ds (Unresolved m) (Constraint n) x y = not_both ds (unit_at_first t) x.0 n y x.1.0
+one_answer t ds NoMain (Constraint n) x y = not_both ds (unit_at_first t) x.0 n y x.1.0
+one_answer t ds (Typed w) (Constraint n) x y = not_both ds (unit_at_first t) x.0 n y x.1.0
 one_answer t ds (Unresolved m) (Unresolved n) x y =
-    let same = same_unit ds (first t) y.0 x.0 y.1.0 x.1.0 in
-    ap Unresolved (same_name (unresolved x.0.state x.0.entities) m n x.1.1 (sym (ap (λ (u : UnitState). unresolved u.state u.entities) same) ∙ y.1.1))
+    let same = same_unit ds (unit_at_first t) y.0 x.0 y.1.0 x.1.0 in
+    ap Unresolved (same_name (first_unresolved x.0.state x.0.entities) m n x.1.1 (sym (ap (λ (u : UnitState). first_unresolved u.state u.entities) same) ∙ y.1.1))
 one_answer t ds (Unresolved m) NoMain x y =
-    let same = same_unit ds (first t) y.0 x.0 y.1.0 x.1.0 in
-    named_none (unresolved x.0.state x.0.entities) m x.1.1 (sym (ap (λ (u : UnitState). unresolved u.state u.entities) same) ∙ y.1.1)
+    let same = same_unit ds (unit_at_first t) y.0 x.0 y.1.0 x.1.0 in
+    named_none (first_unresolved x.0.state x.0.entities) m x.1.1 (sym (ap (λ (u : UnitState). first_unresolved u.state u.entities) same) ∙ y.1.1)
 one_answer t ds (Unresolved m) (Typed w) x y =
-    let same = same_unit ds (first t) y.0 x.0 y.1.0 x.1.0 in
-    named_none (unresolved x.0.state x.0.entities) m x.1.1 (sym (ap (λ (u : UnitState). unresolved u.state u.entities) same) ∙ y.1.1)
+    let same = same_unit ds (unit_at_first t) y.0 x.0 y.1.0 x.1.0 in
+    named_none (first_unresolved x.0.state x.0.entities) m x.1.1 (sym (ap (λ (u : UnitState). first_unresolved u.state u.entities) same) ∙ y.1.1)
 one_answer t ds NoMain (Unresolved m) x y =
-    let same = same_unit ds (first t) x.0 y.0 x.1.0 y.1.0 in
-    named_none (unresolved y.0.state y.0.entities) m y.1.1 (sym (ap (λ (u : UnitState). unresolved u.state u.entities) same) ∙ x.1.1)
+    let same = same_unit ds (unit_at_first t) x.0 y.0 x.1.0 y.1.0 in
+    named_none (first_unresolved y.0.state y.0.entities) m y.1.1 (sym (ap (λ (u : UnitState). first_unresolved u.state u.entities) same) ∙ x.1.1)
 one_answer t ds (Typed w) (Unresolved m) x y =
-    let same = same_unit ds (first t) x.0 y.0 x.1.0 y.1.0 in
-    named_none (unresolved y.0.state y.0.entities) m y.1.1 (sym (ap (λ (u : UnitState). unresolved u.state u.entities) same) ∙ x.1.1)
+    let same = same_unit ds (unit_at_first t) x.0 y.0 x.1.0 y.1.0 in
+    named_none (first_unresolved y.0.state y.0.entities) m y.1.1 (sym (ap (λ (u : UnitState). first_unresolved u.state u.entities) same) ∙ x.1.1)
 one_answer t ds NoMain NoMain x y = refl
 one_answer t ds NoMain (Typed w) x y =
-    let same = same_unit ds (first t) y.0 x.0 y.1.0 x.1.0 in
+    let same = same_unit ds (unit_at_first t) y.0 x.0 y.1.0 x.1.0 in
     true_false (has_main x.0.state.unit) (sym (ap (λ (u : UnitState). has_main u.state.unit) same) ∙ y.1.2) x.1.2
 one_answer t ds (Typed w) NoMain x y =
-    let same = same_unit ds (first t) x.0 y.0 x.1.0 y.1.0 in
+    let same = same_unit ds (unit_at_first t) x.0 y.0 x.1.0 y.1.0 in
     true_false (has_main y.0.state.unit) (sym (ap (λ (u : UnitState). has_main u.state.unit) same) ∙ x.1.2) y.1.2
 one_answer t ds (Typed v) (Typed w) x y =
-    let same = same_unit ds (first t) x.0 y.0 x.1.0 y.1.0 in
-    ap Typed (x.1.3 ∙ ap finished same ∙ sym y.1.3)
+    let same = same_unit ds (unit_at_first t) x.0 y.0 x.1.0 y.1.0 in
+    ap Typed (x.1.3 ∙ ap finished_unit same ∙ sym y.1.3)
 
 -- ---- some answer
 
@@ -149,21 +149,21 @@ up_to ds u (suc m) le =
 abbrev Answer : Table → List DeclarationTree → Type 0
 Answer t ds = (a : Checked) × UnitComes t ds a
 
-with_main : (t : Table) (ds : List DeclarationTree) (u : UnitState) → IsTyped ds (first t) u → unresolved u.state u.entities ≡ None → (has_main u.state.unit ≡ true) ⊎ (has_main u.state.unit ≡ false) → Answer t ds
-with_main t ds u e none (inl there) = (Typed (finished u), (u, (e, none, there, refl)))
+with_main : (t : Table) (ds : List DeclarationTree) (u : UnitState) → IsTyped ds (unit_at_first t) u → first_unresolved u.state u.entities ≡ None → (has_main u.state.unit ≡ true) ⊎ (has_main u.state.unit ≡ false) → Answer t ds
+with_main t ds u e none (inl there) = (Typed (finished_unit u), (u, (e, none, there, refl)))
 with_main t ds u e none (inr absent) = (NoMain, (u, (e, none, absent)))
 
-with_names : (t : Table) (ds : List DeclarationTree) (u : UnitState) → IsTyped ds (first t) u → (unresolved u.state u.entities ≡ None) ⊎ ((n : ℕ) × (unresolved u.state u.entities ≡ Some n)) → Answer t ds
+with_names : (t : Table) (ds : List DeclarationTree) (u : UnitState) → IsTyped ds (unit_at_first t) u → (first_unresolved u.state u.entities ≡ None) ⊎ ((n : ℕ) × (first_unresolved u.state u.entities ≡ Some n)) → Answer t ds
 with_names t ds u e (inl none) = with_main t ds u e none (shown (has_main u.state.unit))
 with_names t ds u e (inr some) = (Unresolved some.0, (u, (e, some.1)))
 
-typed_answer : (t : Table) (ds : List DeclarationTree) → (typed_to ds (length ds) (first t) ≡ None) ⊎ ((u : UnitState) × (typed_to ds (length ds) (first t) ≡ Some u)) → is_some (typed_to ds (length ds) (first t)) ≡ true → Answer t ds
-typed_answer t ds (inl none) e = some_none (typed_to ds (length ds) (first t)) e none
-typed_answer t ds (inr some) e = with_names t ds some.0 some.1 (seen (unresolved some.0.state some.0.entities))
+typed_answer : (t : Table) (ds : List DeclarationTree) → (typed_to ds (length ds) (unit_at_first t) ≡ None) ⊎ ((u : UnitState) × (typed_to ds (length ds) (unit_at_first t) ≡ Some u)) → is_some (typed_to ds (length ds) (unit_at_first t)) ≡ true → Answer t ds
+typed_answer t ds (inl none) e = some_none (typed_to ds (length ds) (unit_at_first t)) e none
+typed_answer t ds (inr some) e = with_names t ds some.0 some.1 (seen (first_unresolved some.0.state some.0.entities))
 
-found_answer : (t : Table) (ds : List DeclarationTree) → Found ds (first t) (length ds) → Answer t ds
+found_answer : (t : Table) (ds : List DeclarationTree) → Found ds (unit_at_first t) (length ds) → Answer t ds
 found_answer t ds (inl b) = (Constraint b.0, b.1)
-found_answer t ds (inr e) = typed_answer t ds (seen (typed_to ds (length ds) (first t))) e
+found_answer t ds (inr e) = typed_answer t ds (seen (typed_to ds (length ds) (unit_at_first t))) e
 
 pub some_answer : (t : Table) (ds : List DeclarationTree) → (a : Checked) × UnitComes t ds a
-some_answer t ds = found_answer t ds (up_to ds (first t) (length ds) (omega arith))
+some_answer t ds = found_answer t ds (up_to ds (unit_at_first t) (length ds) (omega arith))

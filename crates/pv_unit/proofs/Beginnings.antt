@@ -13,7 +13,7 @@ use Rattle.pv_types.specs.Ty.{StructTag}
 use Rattle.pv_typed.specs.Formed.{Grown, no_tables}
 use Rattle.pv_typed.specs.Known.{AreKnown}
 use Rattle.pv_typed.specs.Mains.{literal_text, heap_text}
-use Rattle.pv_typed.specs.Tables.{Stored, whole}
+use Rattle.pv_typed.specs.Tables.{Stored, whole_unit}
 use Rattle.pv_typed.specs.TypedUnits.{WholeUnit}
 use Rattle.pv_check.specs.Growing.{AreSized, is_sized}
 use Rattle.pv_check.specs.Open.{state_of, IsOpen}
@@ -21,7 +21,7 @@ use Rattle.pv_check.specs.Raw.{Raw}
 use Rattle.pv_unit.specs.declared.entities.Outer.{Outer}
 use Rattle.pv_unit.specs.Outside.{unit_state}
 use Rattle.pv_unit.specs.Starting.{IsFirst, first_raw, with_name_behind}
-use Rattle.pv_unit.specs.Units.{first}
+use Rattle.pv_unit.specs.Units.{unit_at_first}
 
 -- ---- names
 
@@ -37,21 +37,21 @@ name_behind old new text n is e last =
     is ∙ ap (λ xs. record old { names = xs }) (new_name (list_any (pointwise nat_eq text) old.names) old.names text n there last)
 
 abbrev named_to : Table → ℕ → WholeUnit
-named_to t k = record (first t).state.unit { names = literal_text ∷ heap_text ∷ take k t.names }
+named_to t k = record (unit_at_first t).state.unit { names = literal_text ∷ heap_text ∷ take k t.names }
 
 -- some of the names of the tokens are there
 pub record Naming (t : Table) (k : ℕ) (m : Stored) : Type 0 where
-  pub unit : whole m ≡ named_to t k
+  pub unit : whole_unit m ≡ named_to t k
   pub types : m.known ≡ no_tables.known
   pub known : AreKnown m
 
-pub naming_next : (t : Table) (k : ℕ) (m new : Stored) (text : List ℕ) → Naming t k m → slice_get t.names k ≡ Some text → whole new ≡ with_name_behind (whole m) text → new.known ≡ m.known → Grown m new → Naming t (k + 1) new
+pub naming_next : (t : Table) (k : ℕ) (m new : Stored) (text : List ℕ) → Naming t k m → slice_get t.names k ≡ Some text → whole_unit new ≡ with_name_behind (whole_unit m) text → new.known ≡ m.known → Grown m new → Naming t (k + 1) new
 naming_next t k m new text h e is known grown =
     let lt = slice_get_within t.names k text e in
     let last = get_or_from_slice_get t.names k text [] e in
     let names : take k t.names ++ (text ∷ []) ≡ take (k + 1) t.names = ap (λ x. take k t.names ++ (x ∷ [])) (sym last) ∙ sym (take_more t.names k [] lt) in
     record {
-      unit = is ∙ ap (λ u. with_name_behind u text) h.unit ∙ ap (λ xs. record (first t).state.unit { names = literal_text ∷ heap_text ∷ xs }) names;
+      unit = is ∙ ap (λ u. with_name_behind u text) h.unit ∙ ap (λ xs. record (unit_at_first t).state.unit { names = literal_text ∷ heap_text ∷ xs }) names;
       types = known ∙ h.types;
       known = grown.known h.known;
     }
@@ -73,9 +73,9 @@ first_open t m s h e = subst (λ r. IsOpen m r) (sym e) (record {
   scopes = ((tt, tt), tt);
 })
 
-pub first_state : (t : Table) (m : Stored) (s : Raw) (o : Outer) → IsFirst t m → s ≡ first_raw → o.entities ≡ [] → o.unsized_typedef ≡ false → unit_state t.texts s m o ≡ first t
+pub first_state : (t : Table) (m : Stored) (s : Raw) (o : Outer) → IsFirst t m → s ≡ first_raw → o.entities ≡ [] → o.unsized_typedef ≡ false → unit_state t.texts s m o ≡ unit_at_first t
 first_state t m s o h raw none closed =
     ap (λ r. unit_state t.texts r m o) raw
     ∙ ap (λ es. record { state = state_of t.texts false first_raw m; entities = es; unsized_typedef = o.unsized_typedef }) none
     ∙ ap (λ b. record { state = state_of t.texts false first_raw m; entities = []; unsized_typedef = b }) closed
-    ∙ ap (λ u. record (first t) { state = record (first t).state { unit = u } }) h.unit
+    ∙ ap (λ u. record (unit_at_first t) { state = record (unit_at_first t).state { unit = u } }) h.unit

@@ -4,7 +4,7 @@ use Rattle.std.proofs.lemmas.List.{take_more, take-map, length-map}
 use Rattle.pv_tree.specs.declared.nodes.NodeId.{NodeId}
 use Rattle.pv_tree.specs.declared.nodes.ListId.{ListId}
 use Rattle.pv_typed.specs.declared.nodes.TypedStmt.TheVariants as stmt
-use Rattle.pv_typed.specs.Children.{HasKind, HasKinds, HasParts, present}
+use Rattle.pv_typed.specs.Children.{HasKind, HasKinds, HasParts, list_if_any}
 use Rattle.pv_typed.specs.Known.{Each}
 use Rattle.pv_typed.specs.Formed.{AreObjects}
 use Rattle.pv_typed.proofs.Each.{each_append}
@@ -14,11 +14,11 @@ use Rattle.pv_typed.specs.NodeTrees.{list_at, statement_at, IsStatement}
 use Rattle.pv_typed.specs.TypedStatement.{TypedStatement, Statements, MoreStatements, Declare, For, ForDeclaration, statements_of}
 use Rattle.pv_types.specs.Known.{Known}
 use Rattle.pv_check.specs.Raw.{Raw, RawScope, scope_shown, scopes_shown}
-use Rattle.pv_check.specs.Scopes.{left}
+use Rattle.pv_check.specs.Scopes.{behind_scope}
 use Rattle.pv_check.specs.Open.{state_of, Goes}
 use Rattle.pv_unit.specs.declared.blocks.Reached.{Reached}
 use Rattle.pv_unit.specs.Reaching.{reached_of, AreReached}
-use Rattle.pv_unit.specs.Statements.{reached, declared_by, declared_in}
+use Rattle.pv_unit.specs.Statements.{reached_declarations, declared_by, declared_in}
 use Rattle.pv_unit.specs.Blocks.{Reached as WholeReached}
 use Rattle.pv_unit.specs.Stated.{statements_in, optional_in, IsOptional, AreStatements}
 use Rattle.pv_unit.proofs.Moving.{expression_stays, statement_stays, optional_same, statement_same, statements_append, statements_same}
@@ -30,7 +30,7 @@ left_shown m ss =
     sym (take-map (scope_shown m) (length ss - 1) ss)
     ∙ ap (λ k. take (k - 1) (scopes_shown m ss)) (sym (length-map ss (scope_shown m)))
 
-pub left_state : (texts : List (List ℕ)) (m : Stored) (s t : Raw) → t ≡ record s { scopes = take (length s.scopes - 1) s.scopes } → state_of texts false t m ≡ left (state_of texts false s m)
+pub left_state : (texts : List (List ℕ)) (m : Stored) (s t : Raw) → t ≡ record s { scopes = take (length s.scopes - 1) s.scopes } → state_of texts false t m ≡ behind_scope (state_of texts false s m)
 left_state texts m s t e =
     ap (λ (r : Raw). state_of texts false r m) e ∙ ap (λ ss. record (state_of texts false s m) { scopes = ss }) (left_shown m.known s.scopes)
 
@@ -56,7 +56,7 @@ declared_more m ns i d os more lt held new =
 
 -- ---- the objects that a declaration reaches
 
-reached_append : (xs : List WholeReached) (x : WholeReached) → reached (xs ++ (x ∷ [])) ≡ reached xs ++ (Declare x.line x.object ∷ [])
+reached_append : (xs : List WholeReached) (x : WholeReached) → reached_declarations (xs ++ (x ∷ [])) ≡ reached_declarations xs ++ (Declare x.line x.object ∷ [])
 reached_append [] x = refl
 reached_append (y ∷ ys) x = ap (λ zs. Declare y.line y.object ∷ zs) (reached_append ys x)
 
@@ -65,9 +65,9 @@ map_append [] x = refl
 map_append (y ∷ ys) x = ap (λ zs. reached_of y ∷ zs) (map_append ys x)
 
 pub reached_more : (xs : List Reached) (i : ℕ) (d : Reached) → i < length xs
-    → reached (map reached_of (take (i + 1) xs)) ≡ reached (map reached_of (take i xs)) ++ (Declare (get_or xs i d).line (get_or xs i d).object ∷ [])
+    → reached_declarations (map reached_of (take (i + 1) xs)) ≡ reached_declarations (map reached_of (take i xs)) ++ (Declare (get_or xs i d).line (get_or xs i d).object ∷ [])
 reached_more xs i d lt =
-    ap (λ ys. reached (map reached_of ys)) (take_more xs i d lt) ∙ ap reached (map_append (take i xs) (get_or xs i d)) ∙ reached_append (map reached_of (take i xs)) (reached_of (get_or xs i d))
+    ap (λ ys. reached_declarations (map reached_of ys)) (take_more xs i d lt) ∙ ap reached_declarations (map_append (take i xs) (get_or xs i d)) ∙ reached_append (map reached_of (take i xs)) (reached_of (get_or xs i d))
 
 pub reached_at : (m : Stored) (xs : List Reached) (i : ℕ) (d : Reached) → AreReached m xs → i < length xs → (get_or xs i d).object < length m.objects
 reached_at m [] i d h lt = absurd (omega (arith, lt))
@@ -80,12 +80,12 @@ reached_stay a b (x ∷ xs) g h = let more : length a.objects ≤ length b.objec
 
 -- one more of them behind others
 pub reached_next : (m0 now new : Stored) (xs : List Reached) (i : ℕ) (d : Reached) (items more before : List NodeId) → i < length xs
-    → statements_in now items ≡ statements_in m0 before ++ reached (map reached_of (take i xs))
+    → statements_in now items ≡ statements_in m0 before ++ reached_declarations (map reached_of (take i xs))
     → statements_in new more ≡ statements_in now items ++ (Declare (get_or xs i d).line (get_or xs i d).object ∷ [])
-    → statements_in new more ≡ statements_in m0 before ++ reached (map reached_of (take (i + 1) xs))
+    → statements_in new more ≡ statements_in m0 before ++ reached_declarations (map reached_of (take (i + 1) xs))
 reached_next m0 now new xs i d items more before lt held one =
     one ∙ ap (λ ys. ys ++ (Declare (get_or xs i d).line (get_or xs i d).object ∷ [])) held
-    ∙ append_assoc (statements_in m0 before) (reached (map reached_of (take i xs))) (Declare (get_or xs i d).line (get_or xs i d).object ∷ [])
+    ∙ append_assoc (statements_in m0 before) (reached_declarations (map reached_of (take i xs))) (Declare (get_or xs i d).line (get_or xs i d).object ∷ [])
     ∙ ap (λ ys. statements_in m0 before ++ ys) (sym (reached_more xs i d lt))
 
 -- one statement behind others
@@ -114,18 +114,18 @@ nothing_behind (x ∷ xs) = ap (λ ys. x ∷ ys) (nothing_behind xs)
 
 -- ---- a `for` with a declaration
 
-present_there : (a b : Stored) (o : Option NodeId) → Goes a b → IsOptional a o → Each (HasKind b.rows (length b.rows) true) (present o)
+present_there : (a b : Stored) (o : Option NodeId) → Goes a b → IsOptional a o → Each (HasKind b.rows (length b.rows) true) (list_if_any o)
 present_there a b None g h = tt
 present_there a b (Some n) g h = (expression_stays a b n g h, tt)
 
-present_is : (m : Stored) (o : Option NodeId) → IsOptional m o → Each (HasKind m.rows (length m.rows) true) (present o)
+present_is : (m : Stored) (o : Option NodeId) → IsOptional m o → Each (HasKind m.rows (length m.rows) true) (list_if_any o)
 present_is m None h = tt
 present_is m (Some n) h = (h, tt)
 
 pub for_parts : (m : Stored) (f v n : Option NodeId) (body : NodeId) → IsOptional m f → IsOptional m v → IsOptional m n → IsStatement m body → HasParts m.rows m.lists (length m.rows) (stmt.For f v n body)
 for_parts m f v n body is_f is_v is_n is = (
-  each_append (HasKind m.rows (length m.rows) true) (present f) (present v ++ present n) (present_is m f is_f)
-      (each_append (HasKind m.rows (length m.rows) true) (present v) (present n) (present_is m v is_v) (present_is m n is_n)),
+  each_append (HasKind m.rows (length m.rows) true) (list_if_any f) (list_if_any v ++ list_if_any n) (present_is m f is_f)
+      (each_append (HasKind m.rows (length m.rows) true) (list_if_any v) (list_if_any n) (present_is m v is_v) (present_is m n is_n)),
   (is, tt),
   tt,
 )
@@ -133,7 +133,7 @@ for_parts m f v n body is_f is_v is_n is = (
 pub round_parts : (a b : Stored) (l : ListId) (v n : Option NodeId) (body : NodeId) → Goes a b → HasKinds b.rows b.lists (length b.rows) false l → IsOptional a v → IsOptional a n → IsStatement a body
     → HasParts b.rows b.lists (length b.rows) (stmt.ForDeclaration l v n body)
 round_parts a b l v n body g list is_v is_n is =
-    (each_append (HasKind b.rows (length b.rows) true) (present v) (present n) (present_there a b v g is_v) (present_there a b n g is_n), (statement_stays a b body g is, tt), (list, tt))
+    (each_append (HasKind b.rows (length b.rows) true) (list_if_any v) (list_if_any n) (present_there a b v g is_v) (present_there a b n g is_n), (statement_stays a b body g is, tt), (list, tt))
 
 tree_of : (m : Stored) (o : Option NodeId) → trees_optional (nodes m) o ≡ optional_in m o
 tree_of m None = refl

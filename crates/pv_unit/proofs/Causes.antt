@@ -8,7 +8,7 @@ use Rattle.pv_types.specs.Ty.{StructTag}
 use Rattle.pv_typed.specs.Formed.{Grown}
 use Rattle.pv_typed.specs.Known.{AreKnown}
 use Rattle.pv_typed.specs.Mains.{main_of}
-use Rattle.pv_typed.specs.Tables.{Stored, whole}
+use Rattle.pv_typed.specs.Tables.{Stored, whole_unit}
 use Rattle.pv_typed.specs.TypedUnits.{WholeUnit}
 use Rattle.pv_typed.proofs.Adding.{grown_trans}
 use Rattle.pv_check.specs.Growing.{AreSized}
@@ -20,10 +20,10 @@ use Rattle.pv_unit.specs.Checking.{IsCause, IsLack, IsNamed, IsResolved, IsStop}
 use Rattle.pv_unit.specs.Redeclarations.{UnitState}
 use Rattle.pv_unit.specs.declared.entities.Outer.{Outer}
 use Rattle.pv_unit.specs.Outside.{unit_state}
-use Rattle.pv_unit.specs.Units.{Breaks, IsTyped, Typed, UnitComes, finished, first, placed_from, statics_from, with_statics, with_placed}
+use Rattle.pv_unit.specs.Units.{Breaks, IsTyped, Typed, UnitComes, finished_unit, unit_at_first, placed_from, statics_from, with_statics, with_placed}
 use Rattle.pv_unit.proofs.Resolutions.{main_found}
 
-pub stop_cause : (t : Table) (ds : List DeclarationTree) (u : UnitState) (e : CheckError) → u ≡ first t → IsStop ds u e → IsCause t ds e
+pub stop_cause : (t : Table) (ds : List DeclarationTree) (u : UnitState) (e : CheckError) → u ≡ unit_at_first t → IsStop ds u e → IsCause t ds e
 stop_cause t ds u (error.Constraint n) same h = subst (λ v. Breaks ds v n) same h
 stop_cause t ds u (error.Unresolved n) same h = absurd h
 stop_cause t ds u error.NoMain same h = absurd h
@@ -35,21 +35,21 @@ stop_named t ds u (error.Unresolved n) h = absurd h
 stop_named t ds u error.NoMain h = tt
 stop_named t ds u error.NoMemory h = tt
 
-lack_cause : (t : Table) (ds : List DeclarationTree) (u : UnitState) (e : CheckError) → IsTyped ds (first t) u → IsLack u e → IsCause t ds e
+lack_cause : (t : Table) (ds : List DeclarationTree) (u : UnitState) (e : CheckError) → IsTyped ds (unit_at_first t) u → IsLack u e → IsCause t ds e
 lack_cause t ds u (error.Constraint n) typed h = absurd h
 lack_cause t ds u (error.Unresolved n) typed h = (u, (typed, h))
 lack_cause t ds u error.NoMain typed h = (u, (typed, h.0, h.1))
 lack_cause t ds u error.NoMemory typed h = tt
 
-pub lack_refused : {T : Type 0} (t : Table) (ds : List DeclarationTree) (u : UnitState) (r : Result T CheckError) → IsTyped ds (first t) u → IfErr r (IsLack u) → IfErr r (IsCause t ds)
+pub lack_refused : {T : Type 0} (t : Table) (ds : List DeclarationTree) (u : UnitState) (r : Result T CheckError) → IsTyped ds (unit_at_first t) u → IfErr r (IsLack u) → IfErr r (IsCause t ds)
 lack_refused t ds u (Ok x) typed h = tt
 lack_refused t ds u (Err e) typed h = lack_cause t ds u e typed h
 
-pub unit_comes : {T : Type 0} (t : Table) (ds : List DeclarationTree) (u : UnitState) (w : WholeUnit) (r : Result T CheckError) → IsTyped ds (first t) u → OnOk r (IsResolved u) → OnOk r (w ≡ finished u) → OnOk r (UnitComes t ds (Typed w))
+pub unit_comes : {T : Type 0} (t : Table) (ds : List DeclarationTree) (u : UnitState) (w : WholeUnit) (r : Result T CheckError) → IsTyped ds (unit_at_first t) u → OnOk r (IsResolved u) → OnOk r (w ≡ finished_unit u) → OnOk r (UnitComes t ds (Typed w))
 unit_comes t ds u w (Ok x) typed h k = (u, (typed, h.0, h.1, k))
 unit_comes t ds u w (Err e) typed h k = tt
 
-pub main_on : {T : Type 0} (u : UnitState) (w : WholeUnit) (r : Result T CheckError) → OnOk r (IsResolved u) → OnOk r (w ≡ finished u) → OnOk r (IsTrue (is_some (main_of w)))
+pub main_on : {T : Type 0} (u : UnitState) (w : WholeUnit) (r : Result T CheckError) → OnOk r (IsResolved u) → OnOk r (w ≡ finished_unit u) → OnOk r (IsTrue (is_some (main_of w)))
 main_on u w (Ok x) h k = subst (λ (v : WholeUnit). IsTrue (is_some (main_of v))) (sym k) (main_found u.state.unit.names u.state.unit.functions h.1)
 main_on u w (Err e) h k = tt
 
@@ -79,8 +79,8 @@ resolved_on (Err e) h = tt
 
 -- ---- the static objects are noted, and then the functions that are pointed to
 
-pub both_noted : {T E : Type 0} (texts : List (List ℕ)) (s : Raw) (a b c : Stored) (o : Outer) (r : Result T E) → whole b ≡ with_statics (statics_from o.entities 0 (whole a).objects) (whole a)
-    → OnOk r (whole c ≡ with_placed (placed_from (map used_of s.used) 0 (whole b).functions) (whole b)) → OnOk r (whole c ≡ finished (unit_state texts s a o))
+pub both_noted : {T E : Type 0} (texts : List (List ℕ)) (s : Raw) (a b c : Stored) (o : Outer) (r : Result T E) → whole_unit b ≡ with_statics (statics_from o.entities 0 (whole_unit a).objects) (whole_unit a)
+    → OnOk r (whole_unit c ≡ with_placed (placed_from (map used_of s.used) 0 (whole_unit b).functions) (whole_unit b)) → OnOk r (whole_unit c ≡ finished_unit (unit_state texts s a o))
 both_noted texts s a b c o (Ok x) h k = k ∙ ap (λ (u : WholeUnit). with_placed (placed_from (map used_of s.used) 0 u.functions) u) h
 both_noted texts s a b c o (Err e) h k = tt
 

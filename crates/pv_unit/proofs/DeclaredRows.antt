@@ -9,13 +9,13 @@ use Rattle.pv_tree.specs.Tables.{Forest, tree_at, trees_of, specifier_at, as_spe
 use Rattle.pv_types.specs.declared.terms.TypeId.{TypeId}
 use Rattle.pv_types.specs.Ty.{Ty}
 use Rattle.pv_types.specs.Known.{Known, tree, env}
-use Rattle.pv_typed.specs.Tables.{Stored, whole}
+use Rattle.pv_typed.specs.Tables.{Stored, whole_unit}
 use Rattle.pv_check.specs.declared.declarators.Steps.{Steps}
 use Rattle.pv_check.specs.declared.specifiers.Seen.{Seen}
 use Rattle.pv_check.specs.declared.specifiers.Specified.{Specified}
-use Rattle.pv_check.specs.Specifiers.{Seen as WhatIsSeen, Specified as WhatIsSpecified, specified}
+use Rattle.pv_check.specs.Specifiers.{Seen as WhatIsSeen, Specified as WhatIsSpecified, specification_of}
 use Rattle.pv_check.specs.Declarators.{steps_shown}
-use Rattle.pv_check.specs.Derivations.{derived, Steps as WholeSteps}
+use Rattle.pv_check.specs.Derivations.{derived_type, Steps as WholeSteps}
 use Rattle.pv_check.specs.Growing.{type_if}
 use Rattle.pv_check.specs.Seeing.{seen_in, specified_if}
 use Rattle.pv_check.specs.Stepping.{step_in, steps_in}
@@ -23,7 +23,7 @@ use Rattle.pv_check.specs.declared.derivations.Step.{Step}
 use Rattle.pv_check.specs.declared.derivations.Step.TheVariants as step
 use Rattle.pv_check.specs.State as state
 use Rattle.pv_check.specs.State.{State, After, Scope, Meaning, TagMeaning, give}
-use Rattle.pv_check.specs.Scopes.{innermost}
+use Rattle.pv_check.specs.Scopes.{innermost_scope}
 use Rattle.pv_typed.specs.Constants.{and_then}
 use Rattle.pv_check.specs.Raw.{Raw, raw_innermost, name_shown, tag_shown, scope_shown}
 use Rattle.pv_check.specs.Typing.{specifiers, steps}
@@ -43,21 +43,21 @@ specified_gives texts s m None = refl
 specified_gives texts s m (Some x) = refl
 
 abbrev take_together : After WhatIsSeen → Option (After WhatIsSpecified)
-take_together a = give (specified a.value) a.state
+take_together a = give (specification_of a.value) a.state
 
-pub specified_done : (texts : List (List ℕ)) (specs : Trees) (start : State) (a b : Stored) (s : Raw) (seen : Seen) (r : Option Specified) → IsOpen a s → Goes a b → whole b ≡ whole a
-    → Some (record { value = seen_in a.known seen; state = state_of texts false s a }) ≡ specifiers specs start → specified_if b.known r ≡ specified (seen_in a.known seen)
+pub specified_done : (texts : List (List ℕ)) (specs : Trees) (start : State) (a b : Stored) (s : Raw) (seen : Seen) (r : Option Specified) → IsOpen a s → Goes a b → whole_unit b ≡ whole_unit a
+    → Some (record { value = seen_in a.known seen; state = state_of texts false s a }) ≡ specifiers specs start → specified_if b.known r ≡ specification_of (seen_in a.known seen)
     → after_specified texts s b r ≡ specified_by specs start
 specified_done texts specs start a b s seen r h g same first second =
     specified_gives texts s b r
     ∙ ap (λ o. give o (state_of texts false s b)) second
-    ∙ ap (give (specified (seen_in a.known seen))) (state_stays texts false a b s h g same)
+    ∙ ap (give (specification_of (seen_in a.known seen))) (state_stays texts false a b s h g same)
     ∙ ap (λ o. and_then o take_together) first
 
 -- ---- the type of a declarator
 
 abbrev made : Bool → Ty → After WholeSteps → Option (After WholeType)
-made unsized t a = give (and_then (derived unsized (state.env a.state) a.value.list t) (with_unsized (has_unsized a.value.list))) a.state
+made unsized t a = give (and_then (derived_type unsized (state.env a.state) a.value.list t) (with_unsized (has_unsized a.value.list))) a.state
 
 abbrev declared_of : Bool → Option TypeId → Option DeclaredType
 declared_of b None = None
@@ -69,23 +69,23 @@ declared_gives texts s m b None = refl
 declared_gives texts s m b (Some t) = refl
 
 pub declared_done : (texts : List (List ℕ)) (unsized b : Bool) (base : ℕ) (d : DeclaratorTree) (start : State) (a e f : Stored) (z : Raw) (x : Steps) (r : Option TypeId)
-    → base < length a.known.terms → Goes a e → IsOpen e z → Goes e f → whole f ≡ whole e
+    → base < length a.known.terms → Goes a e → IsOpen e z → Goes e f → whole_unit f ≡ whole_unit e
     → Some (record { value = steps_shown e.known x; state = state_of texts false z e }) ≡ steps d start
-    → type_if f.known r ≡ derived unsized (env e.known) (steps_in e.known x.list.items) (tree e.known base)
+    → type_if f.known r ≡ derived_type unsized (env e.known) (steps_in e.known x.list.items) (tree e.known base)
     → has_unsized (steps_in e.known x.list.items) ≡ b
     → after_declared texts z f (declared_of b r) ≡ type_declared unsized (tree a.known base) d start
 declared_done texts unsized b base d start a e f z x r here g opened l still first second third =
     declared_gives texts z f b r
     ∙ ap (λ o. give (and_then o (with_unsized b)) (state_of texts false z f)) second
-    ∙ ap (give (and_then (derived unsized (env e.known) (steps_in e.known x.list.items) (tree e.known base)) (with_unsized b))) (state_stays texts false e f z opened l still)
-    ∙ ap (λ c. give (and_then (derived unsized (env e.known) (steps_in e.known x.list.items) (tree e.known base)) (with_unsized c)) (state_of texts false z e)) (sym third)
-    ∙ ap (λ t. give (and_then (derived unsized (env e.known) (steps_in e.known x.list.items) t) (with_unsized (has_unsized (steps_in e.known x.list.items)))) (state_of texts false z e)) (g.grown.types base here)
+    ∙ ap (give (and_then (derived_type unsized (env e.known) (steps_in e.known x.list.items) (tree e.known base)) (with_unsized b))) (state_stays texts false e f z opened l still)
+    ∙ ap (λ c. give (and_then (derived_type unsized (env e.known) (steps_in e.known x.list.items) (tree e.known base)) (with_unsized c)) (state_of texts false z e)) (sym third)
+    ∙ ap (λ t. give (and_then (derived_type unsized (env e.known) (steps_in e.known x.list.items) t) (with_unsized (has_unsized (steps_in e.known x.list.items)))) (state_of texts false z e)) (g.grown.types base here)
     ∙ ap (λ o. and_then o (made unsized (tree a.known base))) first
 
 pub declared_none : (texts : List (List ℕ)) (unsized b : Bool) (base : ℕ) (d : DeclaratorTree) (start : State) (a e f : Stored) (z : Raw) (x : Steps)
-    → base < length a.known.terms → Goes a e → IsOpen e z → Goes e f → whole f ≡ whole e
+    → base < length a.known.terms → Goes a e → IsOpen e z → Goes e f → whole_unit f ≡ whole_unit e
     → Some (record { value = steps_shown e.known x; state = state_of texts false z e }) ≡ steps d start
-    → None ≡ derived unsized (env e.known) (steps_in e.known x.list.items) (tree e.known base)
+    → None ≡ derived_type unsized (env e.known) (steps_in e.known x.list.items) (tree e.known base)
     → None ≡ type_declared unsized (tree a.known base) d start
 declared_none texts unsized b base d start a e f z x here g opened l still first second =
     declared_done texts unsized (has_unsized (steps_in e.known x.list.items)) base d start a e f z x None here g opened l still first second refl
@@ -150,7 +150,7 @@ no_tag f (n ∷ k ∷ ns) h = more_tags f NoTrees (tree_at f n) (tree_at f k) ns
 -- ---- how many names and tags the innermost scope has
 
 pub bound_shown : (texts : List (List ℕ)) (u : Bool) (m : Stored) (s : Raw) → IsOpen m s
-    → length (raw_innermost s.scopes).names + length (raw_innermost s.scopes).tags ≡ bound_in (innermost (state_of texts u s m).scopes)
+    → length (raw_innermost s.scopes).names + length (raw_innermost s.scopes).tags ≡ bound_in (innermost_scope (state_of texts u s m).scopes)
 bound_shown texts u m s h =
     let x = raw_innermost s.scopes in
     sym (ap bound_in (innermost_shown m.known s.scopes h.some)

@@ -9,21 +9,21 @@ use Rattle.pv_types.specs.Layouts.{is_complete_in, tag_type}
 use Rattle.pv_tree.specs.Syntax.{DeclarationTree, Function as FunctionTree, Declaration, InitDeclarator, MemberDeclaration, Enumerator, Parameter, TypeName, DeclaratorTree, Tree, OfExpression, OfDeclaration, OfDeclarator, OfSpecifier, OfInitializer, OfStatement, Trees, NoTrees, Then, OptionalTree, Absent, Present}
 use Rattle.pv_typed.specs.TypedUnits.{object_at}
 use Rattle.pv_check.specs.State.{State, After, env, TagMeaning, CompositeTag, EnumerationTag, OpenEnumeration, give}
-use Rattle.pv_check.specs.Scopes.{find, innermost}
+use Rattle.pv_check.specs.Scopes.{find, innermost_scope}
 use Rattle.pv_typed.specs.Constants.{and_then}
-use Rattle.pv_check.specs.Specifiers.{Specified, specified}
-use Rattle.pv_check.specs.Derivations.{Steps, declared_name, derived}
+use Rattle.pv_check.specs.Specifiers.{Specified, specification_of}
+use Rattle.pv_check.specs.Derivations.{Steps, declared_name, derived_type}
 use Rattle.pv_typed.specs.TypedTree.{is_function}
 use Rattle.pv_check.specs.Tags.{composite_named, tag_alone}
 use Rattle.pv_check.specs.Typing.{specifiers, steps}
 use Rattle.pv_check.proofs.Leaving.{Leaves, specifiers_leave, steps_leave}
-use Rattle.pv_unit.specs.Blocks.{Reached, block_storage, with_initializer, block_object, is_present, block_declarator, block_init_declarator, block_declarators, block_alone, block_declaration, reached}
+use Rattle.pv_unit.specs.Blocks.{Reached, block_storage, with_initializer, block_object, is_present, block_declarator, block_init_declarator, block_declarators, block_alone, block_declaration, reached_object}
 use Rattle.pv_unit.specs.BlockParts.{block_declared}
 use Rattle.pv_unit.specs.Declarations.{DeclaredType, only_tag, tags_alone, specified_by, type_declared}
 use Rattle.pv_unit.specs.DeclarationParts.{declares_something, with_unsized, has_unsized}
 use Rattle.pv_unit.specs.Redeclarations.{new_object}
 use Rattle.pv_unit.specs.Initializers.{Given}
-use Rattle.pv_unit.specs.ValueRules.{initialized, with_given}
+use Rattle.pv_unit.specs.ValueRules.{typed_initializer, with_given}
 use Rattle.pv_unit.proofs.GivenDepths.{initialized_leaves}
 use Rattle.pv_unit.proofs.Values.{none_leaves, some_leaves, give_leaves, then_leaves, value_then}
 
@@ -39,13 +39,13 @@ state_then n (Some s) x h = some_leaves n x s h
 -- ---- declarations in blocks
 
 specified_leaves : (specs : Trees) (n : ℕ) (s : State) → length s.scopes ≡ n → Leaves n (specified_by specs s)
-specified_leaves specs n s h = then_leaves n (specifiers specs s) (λ a. give (specified a.value) a.state) (specifiers_leave specs n s h) (λ a k. give_leaves n (specified a.value) a.state k)
+specified_leaves specs n s h = then_leaves n (specifiers specs s) (λ a. give (specification_of a.value) a.state) (specifiers_leave specs n s h) (λ a k. give_leaves n (specification_of a.value) a.state k)
 
 abbrev made : Bool → Ty → After Steps → Option (After DeclaredType)
-made unsized t a = give (and_then (derived unsized (env a.state) a.value.list t) (with_unsized (has_unsized a.value.list))) a.state
+made unsized t a = give (and_then (derived_type unsized (env a.state) a.value.list t) (with_unsized (has_unsized a.value.list))) a.state
 
 declared_leaves : (unsized : Bool) (t : Ty) (d : DeclaratorTree) (n : ℕ) (s : State) → length s.scopes ≡ n → Leaves n (type_declared unsized t d s)
-declared_leaves unsized t d n s h = then_leaves n (steps d s) (made unsized t) (steps_leave d n s h) (λ a k. give_leaves n (and_then (derived unsized (env a.state) a.value.list t) (with_unsized (has_unsized a.value.list))) a.state k)
+declared_leaves unsized t d n s h = then_leaves n (steps d s) (made unsized t) (steps_leave d n s h) (λ a k. give_leaves n (and_then (derived_type unsized (env a.state) a.value.list t) (with_unsized (has_unsized a.value.list))) a.state k)
 
 object_depth : (n name line : ℕ) (t : Ty) (lasting : Bool) (s : State) → length s.scopes ≡ n → length (new_object name line t lasting s).scopes ≡ n
 object_depth n name line t lasting s h = length-set s.scopes (length s.scopes - 1) _ ∙ h
@@ -64,7 +64,7 @@ if_depth n false s h = tt
 
 initializer_depth : (n : ℕ) (lasting : Bool) (o : ℕ) (i : OptionalTree) (s : State) → length s.scopes ≡ n → KeepsDepth n (with_initializer lasting o i s)
 initializer_depth n lasting o Absent s h = if_depth n (is_complete_in (env s) (object_at s.unit o).t) s h
-initializer_depth n lasting o (Present (OfInitializer i)) s h = given_depth n o (initialized lasting (object_at s.unit o).t i s) (initialized_leaves lasting (object_at s.unit o).t i n s h)
+initializer_depth n lasting o (Present (OfInitializer i)) s h = given_depth n o (typed_initializer lasting (object_at s.unit o).t i s) (initialized_leaves lasting (object_at s.unit o).t i n s h)
 initializer_depth n lasting o (Present (OfExpression x)) s h = tt
 initializer_depth n lasting o (Present (OfDeclaration x)) s h = tt
 initializer_depth n lasting o (Present (OfDeclarator x)) s h = tt
@@ -77,7 +77,7 @@ not_depth n false o h = h
 
 block_object_depth : (n : ℕ) (lasting : Bool) (t : Ty) (k : ℕ × ℕ) (i : OptionalTree) (s : State) → length s.scopes ≡ n → KeepsDepth n (block_object lasting t k i s)
 block_object_depth n lasting t k i s h =
-    not_depth n (is_some (find (innermost s.scopes).names k.0)) (with_initializer lasting (length s.unit.objects) i (new_object k.0 k.1 t lasting s))
+    not_depth n (is_some (find (innermost_scope s.scopes).names k.0)) (with_initializer lasting (length s.unit.objects) i (new_object k.0 k.1 t lasting s))
     (initializer_depth n lasting (length s.unit.objects) i (new_object k.0 k.1 t lasting s) (object_depth n k.0 k.1 t lasting s h))
 
 not_leaves : {A : Type 0} (n : ℕ) (b : Bool) (o : Option (After A)) → Leaves n o → Leaves n (if b then None else o)
@@ -87,13 +87,13 @@ not_leaves n false o h = h
 abbrev object_behind : Bool → ℕ × ℕ → OptionalTree → List Reached → After DeclaredType → Option (After (List Reached))
 object_behind lasting k i xs a =
     if is_function a.value.t then None
-    else and_then (block_object lasting a.value.t k i a.state) (give (Some (xs ++ reached lasting (length a.state.unit.objects) k)))
+    else and_then (block_object lasting a.value.t k i a.state) (give (Some (xs ++ reached_object lasting (length a.state.unit.objects) k)))
 
 declarator_leaves : (lasting : Bool) (t : Ty) (d : DeclaratorTree) (i : OptionalTree) (n : ℕ) (r : After (List Reached)) → length r.state.scopes ≡ n → Leaves n (block_declarator lasting t d i r)
 declarator_leaves lasting t d i n r h =
     value_then n (declared_name d) _ (λ (k : ℕ × ℕ). then_leaves n (type_declared (is_present i) t d r.state) (object_behind lasting k i r.value) (declared_leaves (is_present i) t d n r.state h)
-    (λ a j. not_leaves n (is_function a.value.t) (and_then (block_object lasting a.value.t k i a.state) (give (Some (r.value ++ reached lasting (length a.state.unit.objects) k))))
-    (state_then n (block_object lasting a.value.t k i a.state) (r.value ++ reached lasting (length a.state.unit.objects) k) (block_object_depth n lasting a.value.t k i a.state j))))
+    (λ a j. not_leaves n (is_function a.value.t) (and_then (block_object lasting a.value.t k i a.state) (give (Some (r.value ++ reached_object lasting (length a.state.unit.objects) k))))
+    (state_then n (block_object lasting a.value.t k i a.state) (r.value ++ reached_object lasting (length a.state.unit.objects) k) (block_object_depth n lasting a.value.t k i a.state j))))
 
 init_leaves : (lasting : Bool) (t : Ty) (x : Tree) (n : ℕ) (r : After (List Reached)) → length r.state.scopes ≡ n → Leaves n (block_init_declarator lasting t x r)
 init_leaves lasting t (OfDeclaration (InitDeclarator line d i)) n r h = declarator_leaves lasting t d i n r h
@@ -125,8 +125,8 @@ composite_depth n union k (Some EnumerationTag) s h = tt
 composite_depth n union k (Some OpenEnumeration) s h = tt
 
 tag_depth : (n : ℕ) (w : Word) (k : ℕ) (s : State) → length s.scopes ≡ n → KeepsDepth n (tag_alone w k s)
-tag_depth n word.Struct k s h = composite_depth n false k (find (innermost s.scopes).tags k) s h
-tag_depth n word.Union k s h = composite_depth n true k (find (innermost s.scopes).tags k) s h
+tag_depth n word.Struct k s h = composite_depth n false k (find (innermost_scope s.scopes).tags k) s h
+tag_depth n word.Union k s h = composite_depth n true k (find (innermost_scope s.scopes).tags k) s h
 tag_depth n _ k s h = tt
 
 tags_leave : (specs : Trees) (s : State) (n : ℕ) (a : After Specified) → length a.state.scopes ≡ n → Leaves {A = List Reached} n (and_then (tags_alone specs s a) (λ (b : After Specified). give (Some []) b.state))

@@ -19,7 +19,7 @@ use Rattle.pv_check.proofs.Opening.{same_goes, then_goes}
 use Rattle.pv_unit.specs.declared.parts.Subobject.{Subobject}
 use Rattle.pv_unit.specs.Rules.{Rules, After}
 use Rattle.pv_unit.specs.Parts.{part_at}
-use Rattle.pv_unit.specs.Initializers.{Shape, Stores, joined, formed, shape_of, initialized, each_initialized}
+use Rattle.pv_unit.specs.Initializers.{Shape, Stores, then_part, stores_of_shape, shape_of, initializer_stores, each_initialized}
 use Rattle.pv_unit.specs.RuleParts.{each_of}
 use Rattle.pv_unit.specs.Stores.{AreStores, Fills, behind, stores_if, stores_in}
 use Rattle.pv_unit.specs.Subobjects.{part_of, HasSpace, IsPart}
@@ -31,18 +31,18 @@ use Rattle.pv_unit.proofs.Spaces.{space_grown, space_next, space_one}
 use Rattle.pv_unit.proofs.ValueWords.{values_completed}
 
 -- by its shape
-initialized_is : (r : Rules State) (lasting : Bool) (p : Part) (i : InitializerTree) (s : State) → initialized r lasting p i s ≡ formed r lasting p s (each_of r lasting p i s) (shape_of (r.completed s) p i)
+initialized_is : (r : Rules State) (lasting : Bool) (p : Part) (i : InitializerTree) (s : State) → initializer_stores r lasting p i s ≡ stores_of_shape r lasting p s (each_of r lasting p i s) (shape_of (r.completed s) p i)
 initialized_is r lasting p (Initial line a) s = refl
 initialized_is r lasting p (Braces line inits comma) s = refl
 
 -- the same, where the shape was found in the tables
 pub initialized_shape : (lasting : Bool) (texts : List (List ℕ)) (s : Raw) (m : Stored) (part : Subobject) (i : InitializerTree) (x : Shape) → x ≡ shape_of (completions m.known) (part_of m.known part) i
-    → formed values lasting (part_of m.known part) (state_of texts false s m) (each_of values lasting (part_of m.known part) i (state_of texts false s m)) x ≡ initialized values lasting (part_of m.known part) i (state_of texts false s m)
+    → stores_of_shape values lasting (part_of m.known part) (state_of texts false s m) (each_of values lasting (part_of m.known part) i (state_of texts false s m)) x ≡ initializer_stores values lasting (part_of m.known part) i (state_of texts false s m)
 initialized_shape lasting texts s m part i x e =
     let p = part_of m.known part in
     let st = state_of texts false s m in
     let found = e ∙ ap (λ c. shape_of c p i) (sym (values_completed st)) in
-    ap (formed values lasting p st (each_of values lasting p i st)) found ∙ sym (initialized_is values lasting p i st)
+    ap (stores_of_shape values lasting p st (each_of values lasting p i st)) found ∙ sym (initialized_is values lasting p i st)
 
 pub part_stays : (a b : Stored) (p : Subobject) → Goes a b → IsPart a.known p → IsPart b.known p
 part_stays a b p g h =
@@ -65,7 +65,7 @@ is_tree (OfStatement s) e = cc
 -- ---- a list that stops
 
 one_stops : (r : Rules State) (lasting : Bool) (p : Part) (t : Trees) (x : Tree) (s : State) → each_initialized r lasting p t s ≡ None → each_initialized r lasting p (Then t x) s ≡ None
-one_stops r lasting p t (OfInitializer i) s e = ap (option_and_then (λ d. option_and_then (λ q. option_map (joined d.value) (initialized r lasting q i d.state)) (part_at (r.completed d.state) p d.value.count))) e
+one_stops r lasting p t (OfInitializer i) s e = ap (option_and_then (λ d. option_and_then (λ q. option_map (then_part d.value) (initializer_stores r lasting q i d.state)) (part_at (r.completed d.state) p d.value.count))) e
 one_stops r lasting p t (OfExpression a) s e = refl
 one_stops r lasting p t (OfDeclaration d) s e = refl
 one_stops r lasting p t (OfDeclarator d) s e = refl
@@ -81,7 +81,7 @@ stops r lasting p f t (n ∷ ns) s e = stops r lasting p f (Then t (tree_at f n)
 
 -- what the rest of a list gives, where its beginning gave this
 abbrev further : Rules State → Bool → Part → InitializerTree → After State Stores → Option (After State Stores)
-further r lasting p i d = option_and_then (λ q. option_map (joined d.value) (initialized r lasting q i d.state)) (part_at (r.completed d.state) p d.value.count)
+further r lasting p i d = option_and_then (λ q. option_map (then_part d.value) (initializer_stores r lasting q i d.state)) (part_at (r.completed d.state) p d.value.count)
 
 more_is : (r : Rules State) (lasting : Bool) (p : Part) (f : Forest) (ns : List NodeId) (k : ℕ) (d : NodeId) (s : State) → k < length ns → is_initializer (tree_at f (get_or ns k d)) ≡ true
     → each_initialized r lasting p (trees_of f (take (suc k) ns)) s ≡ option_and_then (further r lasting p (initializer_at f (get_or ns k d))) (each_initialized r lasting p (trees_of f (take k ns)) s)
@@ -110,7 +110,7 @@ next_is : (r : Rules State) (lasting : Bool) (p : Part) (f : Forest) (ns : List 
     → Some (made kept count s) ≡ option_map (behind before) (each_initialized r lasting p (trees_of f (take k ns)) first) → k < length ns → is_initializer (tree_at f (get_or ns k d)) ≡ true
     → (mine : List Store) × ((before ++ mine ≡ kept)
     × (each_initialized r lasting p (trees_of f (take (suc k) ns)) first
-    ≡ option_and_then (λ q. option_map (joined (record { stores = mine; count = count })) (initialized r lasting q (initializer_at f (get_or ns k d)) s)) (part_at (r.completed s) p count)))
+    ≡ option_and_then (λ q. option_map (then_part (record { stores = mine; count = count })) (initializer_stores r lasting q (initializer_at f (get_or ns k d)) s)) (part_at (r.completed s) p count)))
 next_is r lasting p f ns before kept k count d first s typed lt kind =
     let h = found before kept count s _ typed in
     (h.0, (h.1.1, more_is r lasting p f ns k d first lt kind ∙ ap (option_and_then (further r lasting p (initializer_at f (get_or ns k d)))) h.1.0))
@@ -153,7 +153,7 @@ module _ (lasting : Bool) (texts : List (List ℕ)) (m0 m : Stored) (s0 s : Raw)
   i = initializer_at f (get_or ns k d)
 
   abbrev next : List Store → Option Part → Option (After State Stores)
-  next mine o = option_and_then (λ q. option_map (joined (record { stores = mine; count = count })) (initialized values lasting q i (state_of texts false s m))) o
+  next mine o = option_and_then (λ q. option_map (then_part (record { stores = mine; count = count })) (initializer_stores values lasting q i (state_of texts false s m))) o
 
   -- the next part is the one that the code goes to
   place : part_at (values.completed (state_of texts false s m)) p count ≡ part_at (completions m.known) (part_of m.known part) count
@@ -175,21 +175,21 @@ module _ (lasting : Bool) (texts : List (List ℕ)) (m0 m : Stored) (s0 s : Raw)
 
   -- its initializer has no typing
   pub going_refused : (inner : Subobject) → Some (part_of m.known inner) ≡ part_at (completions m.known) (part_of m.known part) count
-      → None ≡ option_map (behind (stores_in m out)) (initialized values lasting (part_of m.known inner) i (state_of texts false s m))
+      → None ≡ option_map (behind (stores_in m out)) (initializer_stores values lasting (part_of m.known inner) i (state_of texts false s m))
       → None ≡ option_map (behind before) (each_initialized values lasting p (trees_of f ns) (state_of texts false s0 m0))
   going_refused inner e refused =
       let h = further_is in
-      none_of (h.1.1 ∙ ap (next h.0) (sym e) ∙ ap (option_map (joined (record { stores = h.0; count = count }))) (unmapped (stores_in m out) _ refused))
+      none_of (h.1.1 ∙ ap (next h.0) (sym e) ∙ ap (option_map (then_part (record { stores = h.0; count = count }))) (unmapped (stores_in m out) _ refused))
 
   -- it is typed too
   pub going_next : (b : Stored) (t : Raw) (inner : Subobject) (n : ℕ) (more : List Init) → Some (part_of m.known inner) ≡ part_at (completions m.known) (part_of m.known part) count
-      → stores_if texts t b more (Some n) ≡ option_map (behind (stores_in m out)) (initialized values lasting (part_of m.known inner) i (state_of texts false s m)) → Fills m b t more
+      → stores_if texts t b more (Some n) ≡ option_map (behind (stores_in m out)) (initializer_stores values lasting (part_of m.known inner) i (state_of texts false s m)) → Fills m b t more
       → Going lasting texts m0 s0 part f ns before (k + 1) b t more (count + 1)
   going_next b t inner n more e typed fills =
       let h = further_is in
       let st = state_of texts false t b in
       let j = found (stores_in m out) (stores_in b more) n st _ typed in
-      let done = h.1.1 ∙ ap (next h.0) (sym e) ∙ ap (option_map (joined (record { stores = h.0; count = count }))) j.1.0 in
+      let done = h.1.1 ∙ ap (next h.0) (sym e) ∙ ap (option_map (then_part (record { stores = h.0; count = count }))) j.1.0 in
       let step : suc k ≡ k + 1 = omega arith in
       let stores = sym (append_assoc before h.0 j.0) ∙ ap (λ xs. xs ++ j.0) h.1.0 ∙ j.1.1 in
       let layouts = layout_stays (env m.known) (env b.known) fills.goes.completed in

@@ -6,7 +6,7 @@ use Rattle.pv_check.specs.Open.{Goes}
 use Rattle.pv_check.specs.State.{State}
 use Rattle.pv_unit.specs.Definitions.{is_finished}
 use Rattle.pv_unit.specs.HeadParts.{are_finished}
-use Rattle.pv_unit.specs.Redeclarations.{Entity, entity, is_entity, marked}
+use Rattle.pv_unit.specs.Redeclarations.{Entity, entity, is_entity, entities_after}
 use Rattle.pv_check.proofs.Opening.{then_goes}
 use Rattle.pv_unit.specs.DeclaredIn.{GoesOn}
 use Rattle.pv_unit.specs.There.{HasNumber, IsThere, AreThere, ThereOn}
@@ -29,10 +29,10 @@ there_either : (m : Stored) (e f : Entity) (es fs : List Entity) (c : Bool) → 
 there_either m e f es fs true h k = h
 there_either m e f es fs false h k = k
 
-pub there_marked : (m : Stored) (f : Bool) (k : ℕ) (d i b : Bool) (es : List Entity) → AreThere m es → AreThere m (marked f k d i b es)
+pub there_marked : (m : Stored) (f : Bool) (k : ℕ) (d i b : Bool) (es : List Entity) → AreThere m es → AreThere m (entities_after f k d i b es)
 there_marked m f k d i b [] h = h
 there_marked m f k d i b (e ∷ es) h =
-    there_either m e (record e { defined = e.defined || d; initialized = e.initialized || i; unsized = e.unsized || b }) es (marked f k d i b es) (is_entity f k e) h (h.0, there_marked m f k d i b es h.1)
+    there_either m e (record e { defined = e.defined || d; initialized = e.initialized || i; unsized = e.unsized || b }) es (entities_after f k d i b es) (is_entity f k e) h (h.0, there_marked m f k d i b es h.1)
 
 pub there_at : (m : Stored) (es : List Entity) (i : ℕ) (none : Entity) → i < length es → AreThere m es → IsThere m (slice_index_or es i none)
 there_at m [] i none lt h = absurd (omega arith)

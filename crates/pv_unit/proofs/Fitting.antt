@@ -4,7 +4,7 @@ use Rattle.std.proofs.lemmas.Bool.Decides.{nat_tests}
 use Rattle.pv_types.specs.Ty.{Ty, VoidTy, IntTy, PointerTo, ArrayOf, StructTag, UnionTag, FunctionTy, ConstOf}
 use Rattle.pv_types.specs.Layouts.{Entry, Layout, layout_in, is_complete_in, look}
 use Rattle.pv_types.specs.LayoutParts.{or_none}
-use Rattle.pv_types.specs.Sorts.{bare}
+use Rattle.pv_types.specs.Sorts.{bare_type}
 use Rattle.pv_unit.specs.Parts.{has_element, can_be_initialized}
 use Rattle.pv_unit.specs.Subobjects.{fits, HasRoom}
 
@@ -21,7 +21,7 @@ under_const true x y z e = e
 under_const false x y z e = cc
 
 -- what fits, fits without its qualifiers
-pub bare_fits : (env : List Entry) (o : ℕ) (t : Ty) → fits env o t ≡ true → fits env o (bare t) ≡ true
+pub bare_fits : (env : List Entry) (o : ℕ) (t : Ty) → fits env o t ≡ true → fits env o (bare_type t) ≡ true
 bare_fits env o (ConstOf t) e = bare_fits env o t (under_const (is_complete_in env t) (nat_le (o + (layout_in env t).size) (2 ^ 32)) (o == 0) (can_be_initialized env t && (o == 0)) e)
 bare_fits env o VoidTy e = e
 bare_fits env o (IntTy k) e = e

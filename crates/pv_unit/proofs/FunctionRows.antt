@@ -10,7 +10,7 @@ use Rattle.pv_typed.specs.declared.entries.Function.{Function as FunctionRow}
 use Rattle.pv_typed.specs.Adding.{with_param}
 use Rattle.pv_typed.specs.Entries.{with_function_at}
 use Rattle.pv_typed.specs.Headed.{list_of}
-use Rattle.pv_typed.specs.Tables.{Stored, whole, nodes, function_in}
+use Rattle.pv_typed.specs.Tables.{Stored, whole_unit, nodes, function_in}
 use Rattle.pv_typed.specs.NodeTrees.{statement_at}
 use Rattle.pv_typed.specs.TypedStatement.{TypedStatement}
 use Rattle.pv_typed.specs.TypedUnits.{TypedFunction, WholeUnit, function_at}
@@ -55,11 +55,11 @@ pub state_within : (texts : List (List ℕ)) (m : Stored) (s t : Raw) (x : RawSc
     → state_of texts false t m ≡ within (scope_shown m.known x) (state_of texts false s m)
 state_within texts m s t x e =
     ap (λ r. state_of texts false r m) e
-    ∙ ap (λ (ss : List Scope). record { scopes = ss; unit = whole m; texts = texts; used = map used_of s.used; unevaluated = false }) (map_push (scope_shown m.known) s.scopes x)
+    ∙ ap (λ (ss : List Scope). record { scopes = ss; unit = whole_unit m; texts = texts; used = map used_of s.used; unevaluated = false }) (map_push (scope_shown m.known) s.scopes x)
 
 -- ---- parameters
 
-pub param_added : (texts : List (List ℕ)) (a b : Stored) (s : Raw) (f o : ℕ) → IsOpen a s → Goes a b → whole b ≡ with_param (whole a) f o
+pub param_added : (texts : List (List ℕ)) (a b : Stored) (s : Raw) (f o : ℕ) → IsOpen a s → Goes a b → whole_unit b ≡ with_param (whole_unit a) f o
     → state_of texts false s b ≡ with_parameter f (Some o) (state_of texts false s a)
 param_added texts a b s f o h g e = state_more texts false a b s h g ∙ ap (λ (w : WholeUnit). record (state_of texts false s a) { unit = w }) e
 
@@ -83,13 +83,13 @@ parameters_none m (p ∷ ps) (suc i) f z h = parameters_none m ps i f z (omega (
 -- ---- the body
 
 pub body_set : (texts : List (List ℕ)) (a b : Stored) (s : Raw) (f : ℕ) (old : FunctionRow) (n : NodeId) → IsOpen a s → Goes a b
-    → function_at (whole a) f ≡ function_in a.known (nodes a) (old, list_of a.functions f)
-    → whole b ≡ with_function_at (whole a) f (function_in a.known (nodes a) (record old { body = Some n }, []))
+    → function_at (whole_unit a) f ≡ function_in a.known (nodes a) (old, list_of a.functions f)
+    → whole_unit b ≡ with_function_at (whole_unit a) f (function_in a.known (nodes a) (record old { body = Some n }, []))
     → state_of texts false s b ≡ with_body f (statement_at a n) (state_of texts false s a)
 body_set texts a b s f old n h g was is =
     state_more texts false a b s h g
     ∙ ap (λ (w : WholeUnit). record (state_of texts false s a) { unit = w })
-    (is ∙ ap (λ (x : TypedFunction). with_function_at (whole a) f (record x { body = Some (statement_at a n); params = [] })) (sym was))
+    (is ∙ ap (λ (x : TypedFunction). with_function_at (whole_unit a) f (record x { body = Some (statement_at a n); params = [] })) (sym was))
 
 pub body_none : (z : StatementTree) (texts : List (List ℕ)) (m : Stored) (s : Raw) (o : Outer) (d : Defined) (g : Signature) → is_block z ≡ false → None ≡ typed_body z (head_made texts s m o d g)
 body_none (Block line items) texts m s o d g e = cc

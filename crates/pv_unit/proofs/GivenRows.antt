@@ -13,7 +13,7 @@ use Rattle.pv_typed.specs.declared.entries.Object.{Object}
 use Rattle.pv_typed.specs.Entries.{stored_in, with_object_at, with_store}
 use Rattle.pv_typed.specs.Formed.{Grown}
 use Rattle.pv_typed.specs.Headed.{list_of}
-use Rattle.pv_typed.specs.Tables.{Stored, nodes, object_in, store_in, whole as whole_of}
+use Rattle.pv_typed.specs.Tables.{Stored, nodes, object_in, store_in, whole_unit as whole_of}
 use Rattle.pv_typed.specs.TypedUnits.{Store, TypedObject, WholeUnit, object_at}
 use Rattle.pv_typed.specs.UnitParts.{no_object}
 use Rattle.pv_typed.proofs.Each.{each_at}
@@ -28,12 +28,12 @@ use Rattle.pv_check.proofs.Literals.{goes_same_types}
 use Rattle.pv_check.proofs.Opening.{open_goes, same_goes, scopes_stay, state_stays, then_goes}
 use Rattle.pv_unit.specs.declared.giving.Completion.{Completion}
 use Rattle.pv_unit.specs.Giving.{given_if, given_in, with_stores}
-use Rattle.pv_unit.specs.Initializers.{Stores, Given, given, initialized, initialized_object, whole}
+use Rattle.pv_unit.specs.Initializers.{Stores, Given, given_to, initializer_stores, initialized_object, whole_object}
 use Rattle.pv_unit.specs.InitializerParts.{is_braced}
-use Rattle.pv_unit.specs.Parts.{can_be_initialized, sized}
+use Rattle.pv_unit.specs.Parts.{can_be_initialized, with_size}
 use Rattle.pv_unit.specs.Rules.{After}
 use Rattle.pv_unit.specs.Stores.{AreStores, Fills, IsStore, behind, stores_if, stores_in}
-use Rattle.pv_unit.specs.ValueRules.{lowered, values, with_given}
+use Rattle.pv_unit.specs.ValueRules.{to_expressions, values, with_given}
 use Rattle.pv_unit.specs.ValueRules as object_rules
 use Rattle.pv_unit.proofs.Growth.{complete_stays, store_same, stores_same, stores_stay}
 use Rattle.pv_unit.proofs.ValueWords.{values_completed}
@@ -69,12 +69,12 @@ module _ (lasting : Bool) (texts : List (List ℕ)) (m0 : Stored) (s0 : Raw) (t 
   st0 = state_of texts false s0 m0
 
   abbrev braced_in : List Completed → Bool
-  braced_in done = is_braced done (whole t) i
+  braced_in done = is_braced done (whole_object t) i
 
   abbrev gives : Bool → Option (After State Stores) → Option (After State Given)
-  gives can o = if can then option_map (given t (braced_in (values.completed st0))) o else None
+  gives can o = if can then option_map (given_to t (braced_in (values.completed st0))) o else None
 
-  object_is : initialized_object values lasting t i st0 ≡ gives (can_be_initialized (layouts_of (values.completed st0)) t) (initialized values lasting (whole t) i st0)
+  object_is : initialized_object values lasting t i st0 ≡ gives (can_be_initialized (layouts_of (values.completed st0)) t) (initializer_stores values lasting (whole_object t) i st0)
   unfolding initialized_object
   object_is = refl
 
@@ -83,24 +83,24 @@ module _ (lasting : Bool) (texts : List (List ℕ)) (m0 : Stored) (s0 : Raw) (t 
 
   pub given_refused : can_be_initialized (env m0.known) t ≡ false → None ≡ initialized_object values lasting t i st0
   given_refused can =
-      if_false (can_be_initialized (layouts_of (values.completed st0)) t) (option_map (given t (braced_in (values.completed st0))) (initialized values lasting (whole t) i st0)) None (can_is ∙ can)
+      if_false (can_be_initialized (layouts_of (values.completed st0)) t) (option_map (given_to t (braced_in (values.completed st0))) (initializer_stores values lasting (whole_object t) i st0)) None (can_is ∙ can)
       ∙ sym object_is
 
-  typed_is : (o : Option (After State Stores)) → can_be_initialized (env m0.known) t ≡ true → o ≡ option_map (behind []) (initialized values lasting (whole t) i st0)
-      → option_map (given t (braced_in (values.completed st0))) o ≡ initialized_object values lasting t i st0
+  typed_is : (o : Option (After State Stores)) → can_be_initialized (env m0.known) t ≡ true → o ≡ option_map (behind []) (initializer_stores values lasting (whole_object t) i st0)
+      → option_map (given_to t (braced_in (values.completed st0))) o ≡ initialized_object values lasting t i st0
   typed_is o can typed =
-      ap (option_map (given t (braced_in (values.completed st0)))) (typed ∙ same_behind (initialized values lasting (whole t) i st0))
-      ∙ if_true (can_be_initialized (layouts_of (values.completed st0)) t) (option_map (given t (braced_in (values.completed st0))) (initialized values lasting (whole t) i st0)) None (can_is ∙ can)
+      ap (option_map (given_to t (braced_in (values.completed st0)))) (typed ∙ same_behind (initializer_stores values lasting (whole_object t) i st0))
+      ∙ if_true (can_be_initialized (layouts_of (values.completed st0)) t) (option_map (given_to t (braced_in (values.completed st0))) (initializer_stores values lasting (whole_object t) i st0)) None (can_is ∙ can)
       ∙ sym object_is
 
-  pub given_none : can_be_initialized (env m0.known) t ≡ true → None ≡ option_map (behind []) (initialized values lasting (whole t) i st0) → None ≡ initialized_object values lasting t i st0
+  pub given_none : can_be_initialized (env m0.known) t ≡ true → None ≡ option_map (behind []) (initializer_stores values lasting (whole_object t) i st0) → None ≡ initialized_object values lasting t i st0
   given_none can none = typed_is None can none
 
   abbrev given_as : Ty → Bool → List Store → State → Option (After State Given)
   given_as u b xs s = Some (record { value = record { t = u; braced = b; stores = xs }; state = s })
 
   pub given_done : (m1 m2 : Stored) (s1 : Raw) (n : ℕ) (out : List Init) (x : Completion) → can_be_initialized (env m0.known) t ≡ true → Fills m0 m1 s1 out → Kept m1 m2
-      → stores_if texts s1 m1 out (Some n) ≡ option_map (behind []) (initialized values lasting (whole t) i st0) → tree m2.known x.t.0 ≡ sized t n → x.braced ≡ braced_in (completions m0.known)
+      → stores_if texts s1 m1 out (Some n) ≡ option_map (behind []) (initializer_stores values lasting (whole_object t) i st0) → tree m2.known x.t.0 ≡ with_size t n → x.braced ≡ braced_in (completions m0.known)
       → given_if texts s1 m2 out (Some x) ≡ initialized_object values lasting t i st0
   given_done m1 m2 s1 n out x can fills k typed tree_is braced =
       let h = goes_kept m1 m2 k in
@@ -108,9 +108,9 @@ module _ (lasting : Bool) (texts : List (List ℕ)) (m0 : Stored) (s0 : Raw) (t 
       let braced_is : x.braced ≡ braced_in (values.completed st0) = braced ∙ sym (ap braced_in (values_completed st0)) in
       let state : state_of texts false s1 m2 ≡ st1 = state_stays texts false m1 m2 s1 fills.opened h k.whole in
       ap (λ (u : Ty). given_as u x.braced (stores_in m2 out) (state_of texts false s1 m2)) tree_is
-      ∙ ap (λ b. given_as (sized t n) b (stores_in m2 out) (state_of texts false s1 m2)) braced_is
-      ∙ ap (λ xs. given_as (sized t n) (braced_in (values.completed st0)) xs (state_of texts false s1 m2)) (stores_same m1 m2 h out fills.stores)
-      ∙ ap (given_as (sized t n) (braced_in (values.completed st0)) (stores_in m1 out)) state
+      ∙ ap (λ b. given_as (with_size t n) b (stores_in m2 out) (state_of texts false s1 m2)) braced_is
+      ∙ ap (λ xs. given_as (with_size t n) (braced_in (values.completed st0)) xs (state_of texts false s1 m2)) (stores_same m1 m2 h out fills.stores)
+      ∙ ap (given_as (with_size t n) (braced_in (values.completed st0)) (stores_in m1 out)) state
       ∙ typed_is (stores_if texts s1 m1 out (Some n)) can typed
 
 pub fills_kept : (m0 m1 m2 : Stored) (s1 : Raw) (out : List Init) → Fills m0 m1 s1 out → Kept m1 m2 → Fills m0 m2 s1 out
@@ -190,6 +190,6 @@ given_all o f = Some (with_given o f.value f.state)
 
 pub giving_done : (lasting : Bool) (texts : List (List ℕ)) (m1 m2 : Stored) (s1 : Raw) (t u : Ty) (i : InitializerTree) (s : State) (o : ℕ) (out : List Init) (x : Completion) → u ≡ t
     → given_if texts s1 m1 out (Some x) ≡ initialized_object values lasting t i s → state_of texts false s1 m2 ≡ with_given o (given_in m1 out x) (state_of texts false s1 m1)
-    → Some (state_of texts false s1 m2) ≡ and_then (object_rules.initialized lasting u i s) (given_all o)
+    → Some (state_of texts false s1 m2) ≡ and_then (object_rules.typed_initializer lasting u i s) (given_all o)
 giving_done lasting texts m1 m2 s1 t u i s o out x same typed is =
-    ap (λ z. Some z) is ∙ ap (λ y. and_then (lowered y) (given_all o)) typed ∙ ap (λ (v : Ty). and_then (object_rules.initialized lasting v i s) (given_all o)) (sym same)
+    ap (λ z. Some z) is ∙ ap (λ y. and_then (to_expressions y) (given_all o)) typed ∙ ap (λ (v : Ty). and_then (object_rules.typed_initializer lasting v i s) (given_all o)) (sym same)

@@ -5,11 +5,11 @@ use Rattle.pv_types.specs.Ty.{Ty, Tys, FunctionTy}
 use Rattle.pv_types.specs.Known.{Known, tree, env}
 use Rattle.pv_types.specs.Layouts.{Entry}
 use Rattle.pv_typed.specs.Known.{Each}
-use Rattle.pv_typed.specs.Tables.{Stored, whole}
+use Rattle.pv_typed.specs.Tables.{Stored, whole_unit}
 use Rattle.pv_check.specs.declared.parameters.Parameter.{Parameter}
 use Rattle.pv_check.specs.declared.parameters.Signature.{Signature as OwnSignature}
 use Rattle.pv_check.specs.Declarators.{parameter_shown, parameters_shown, signature_shown, signature_if, ParameterKnown as KnownParameter}
-use Rattle.pv_check.specs.Derivations.{Derivation, Signature, Steps, derived}
+use Rattle.pv_check.specs.Derivations.{Derivation, Signature, Steps, derived_type}
 use Rattle.pv_check.specs.Open.{state_of, IsOpen, Goes}
 use Rattle.pv_check.specs.Raw.{Raw}
 use Rattle.pv_check.specs.State.{State, After}
@@ -63,7 +63,7 @@ head_refused texts a s o t ts v n line ps g same may =
     (ap (may_be_defined (state_of texts false s a) n t v) same ∙ may))
 
 pub head_done : (texts : List (List ℕ)) (a b : Stored) (s : Raw) (o : Outer) (base t n line : ℕ) (ds : List Derivation) (g : Signature) (r : Option (Head × UnitState))
-    → IsOpen a s → Goes a b → whole b ≡ whole a → Some (tree b.known t) ≡ derived false (env a.known) ds (tree a.known base)
+    → IsOpen a s → Goes a b → whole_unit b ≡ whole_unit a → Some (tree b.known t) ≡ derived_type false (env a.known) ds (tree a.known base)
     → r ≡ head_of (tree b.known t) g (n, line) (unit_state texts s b o)
     → r ≡ head_derived (tree a.known base) ds g (n, line) (unit_state texts s a o)
 head_done texts a b s o base t n line ds g r h goes same made is =

@@ -16,10 +16,10 @@ use Rattle.pv_unit.specs.declared.blocks.Reached.{Reached}
 use Rattle.pv_unit.specs.declared.plain.Place.{Place}
 use Rattle.pv_unit.specs.Blocks.{Reached as WholeReached, block_declaration}
 use Rattle.pv_unit.specs.Reaching.{reached_of, reached_in}
-use Rattle.pv_unit.specs.Statements.{Around, reached}
+use Rattle.pv_unit.specs.Statements.{Around, reached_declarations}
 use Rattle.pv_unit.specs.TypedStatements.{typed_statement, typed_items, typed_item}
 use Rattle.pv_unit.specs.Made.{with_reached, with_statement}
-use Rattle.pv_unit.specs.Stated.{around_in, stated, statements_in, items_in, AreStatements, Moves}
+use Rattle.pv_unit.specs.Stated.{around_in, statement_after, statements_in, items_in, AreStatements, Moves}
 use Rattle.pv_unit.proofs.Depths.{declaration_leaves}
 use Rattle.pv_unit.proofs.Moving.{moves_same, moves_on, around_same, are_append, statements_stay, statements_same, statements_append, step_on, step_none}
 use Rattle.pv_unit.proofs.Values.{deep_shown}
@@ -38,12 +38,12 @@ declared_moves texts d a b s t all opened goes is = record {
 }
 
 pub declared_done : (texts : List (List ℕ)) (o : Option (After (List WholeReached))) (a b e : Stored) (t : Raw) (items more : List NodeId) (all : List Reached)
-    → Goes a b → AreStatements a items → Some (reached_in texts t b all) ≡ o → statements_in e more ≡ statements_in b items ++ reached (map reached_of all) → state_of texts false t e ≡ state_of texts false t b
+    → Goes a b → AreStatements a items → Some (reached_in texts t b all) ≡ o → statements_in e more ≡ statements_in b items ++ reached_declarations (map reached_of all) → state_of texts false t e ≡ state_of texts false t b
     → Some (items_in texts t e more) ≡ and_then o (with_reached (statements_in a items))
 declared_done texts o a b e t items more all g are is new same =
     step_on o (reached_in texts t b all) (with_reached (statements_in a items)) _ is
-    (ap (λ (xs : List TypedStatement). Some (record { value = xs; state = state_of texts false t e })) (new ∙ ap (λ ys. ys ++ reached (map reached_of all)) (statements_same a b items g are))
-    ∙ ap (λ (z : State). Some (record { value = statements_in a items ++ reached (map reached_of all); state = z })) same)
+    (ap (λ (xs : List TypedStatement). Some (record { value = xs; state = state_of texts false t e })) (new ∙ ap (λ ys. ys ++ reached_declarations (map reached_of all)) (statements_same a b items g are))
+    ∙ ap (λ (z : State). Some (record { value = statements_in a items ++ reached_declarations (map reached_of all); state = z })) same)
 
 -- ---- one item more
 
@@ -73,9 +73,9 @@ item_stated w t x r kind other h = h ∙ sym (ap (λ y. typed_item w y x) (item_
 
 -- a statement behind others
 pub item_pushed : (texts : List (List ℕ)) (o : Option (After TypedStatement)) (a b : Stored) (t : Raw) (items more : List NodeId) (n : NodeId) → Goes a b → AreStatements a items
-    → Some (stated texts t b n) ≡ o → more ≡ items ++ (n ∷ []) → Some (items_in texts t b more) ≡ and_then o (with_statement (statements_in a items))
+    → Some (statement_after texts t b n) ≡ o → more ≡ items ++ (n ∷ []) → Some (items_in texts t b more) ≡ and_then o (with_statement (statements_in a items))
 item_pushed texts o a b t items more n g are is new =
-    step_on o (stated texts t b n) (with_statement (statements_in a items)) _ is
+    step_on o (statement_after texts t b n) (with_statement (statements_in a items)) _ is
     (ap (λ (xs : List TypedStatement). Some (record { value = xs; state = state_of texts false t b }))
     (ap (statements_in b) new ∙ statements_append b items n ∙ ap (λ ys. ys ++ (statement_at b n ∷ [])) (statements_same a b items g are)))
 

@@ -20,7 +20,7 @@ use Rattle.pv_check.proofs.ListRows.{one_more, none_at}
 use Rattle.pv_unit.specs.declared.labels.Label.{Label}
 use Rattle.pv_unit.specs.declared.labels.Label.TheVariants as label
 use Rattle.pv_unit.specs.Statements.{is_label, label_in, typed_label, typed_labels, under}
-use Rattle.pv_unit.specs.StatementParts.{labelled, stands}
+use Rattle.pv_unit.specs.StatementParts.{labels_with, stands}
 use Rattle.pv_unit.specs.Statements as statements
 use Rattle.pv_unit.specs.Stated.{Moves}
 use Rattle.pv_unit.specs.Switching.{label_of, labels_of, key_of, labels_if, behind_labels, with_label}
@@ -35,14 +35,14 @@ stmt_is (OfSpecifier d) e = cc
 stmt_is (OfInitializer i) e = cc
 
 -- the switch's labels with one more are the own ones with one more behind those that were seen
-moved : (seen own : List statements.Label) (x : After statements.Label) → with_label (seen ++ own) x ≡ behind_labels seen (labelled seen own x)
+moved : (seen own : List statements.Label) (x : After statements.Label) → with_label (seen ++ own) x ≡ behind_labels seen (labels_with seen own x)
 moved seen own x = moved_by (stands x.value (seen ++ own))
   where
     moved_by : (b : Bool) → (if b then None else Some (record { value = seen ++ own ++ (x.value ∷ []); state = x.state })) ≡ behind_labels seen (if b then None else Some (record { value = own ++ (x.value ∷ []); state = x.state }))
     moved_by true = refl
     moved_by false = ap (λ (ls : List statements.Label). Some (record { value = ls; state = x.state })) (append_assoc seen own (x.value ∷ []))
 
-moved_all : (seen own : List statements.Label) (o : Option (After statements.Label)) → and_then o (with_label (seen ++ own)) ≡ behind_labels seen (and_then o (labelled seen own))
+moved_all : (seen own : List statements.Label) (o : Option (After statements.Label)) → and_then o (with_label (seen ++ own)) ≡ behind_labels seen (and_then o (labels_with seen own))
 moved_all seen own None = refl
 moved_all seen own (Some x) = moved seen own x
 
@@ -67,7 +67,7 @@ unmapped seen None e = refl
 unmapped seen (Some y) e = cc
 
 abbrev labelled_next : IntKind → List statements.Label → StatementTree → After (List statements.Label) → Option (After (List statements.Label))
-labelled_next k seen l own = and_then (typed_label k l own.state) (labelled seen own.value)
+labelled_next k seen l own = and_then (typed_label k l own.state) (labels_with seen own.value)
 
 -- some labels are typed
 pub record Along (texts : List (List ℕ)) (k : IntKind) (f : Forest) (ns : List NodeId) (seen : List statements.Label) (s0 : Raw) (m0 : Stored) (i : ℕ) (s : Raw) (m : Stored) (all : List Label) : Type 0 where

@@ -4,12 +4,12 @@ use Rattle.pv_types.specs.Ty.{Ty, VoidTy, IntTy, PointerTo, ArrayOf, StructTag, 
 use Rattle.pv_types.specs.Layouts.{Entry, Part, Named, layout_in, layout_at, layout_of, struct_placed, union_placed, is_complete_in, look}
 use Rattle.pv_types.specs.LayoutParts.{part_count, or_none}
 use Rattle.pv_types.specs.Known.{Known, trees, env}
-use Rattle.pv_types.specs.Formed.{completions, named, is_union_in, IsBuilt}
+use Rattle.pv_types.specs.Formed.{completions, named_members, is_union_in, IsBuilt}
 use Rattle.pv_types.proofs.Counted.{AreFewer, const_count, element_fewer, members_fewer}
 use Rattle.pv_types.proofs.Fills.{left_true, lt_true}
 use Rattle.pv_types.proofs.Made.{made}
 use Rattle.pv_types.proofs.Placed.{members_named}
-use Rattle.pv_types.specs.Sorts.{bare, is_scalar}
+use Rattle.pv_types.specs.Sorts.{bare_type, is_scalar}
 use Rattle.pv_unit.specs.Parts.{part_number, first_member, part_in, part_at, has_element, leaf_within}
 use Rattle.pv_unit.specs.PartParts.{within}
 
@@ -29,17 +29,17 @@ union_lower env h [] p fewer e = cc
 union_lower env h (m ∷ ms) p fewer e = let same = sym (ap (part_or p) e) in rw same (first_fewer env h m ms fewer)
 
 -- a completed structure or union has more parts than each of its members
-tag_fewer : (m : Known) (n : ℕ) → IsBuilt m → is_some (look (env m) n) ≡ true → AreFewer (env m) (part_count (or_none (look (env m) n))) (named m n)
+tag_fewer : (m : Known) (n : ℕ) → IsBuilt m → is_some (look (env m) n) ≡ true → AreFewer (env m) (part_count (or_none (look (env m) n))) (named_members m n)
 tag_fewer m n built there =
-    let whole : or_none (look (env m) n) ≡ layout_of (env m) n (is_union_in m.done n) (named m n) = ap or_none (made m n built there).laid in
-    rw whole (members_fewer (env m) n (is_union_in m.done n) (named m n))
+    let whole : or_none (look (env m) n) ≡ layout_of (env m) n (is_union_in m.done n) (named_members m n) = ap or_none (made m n built there).laid in
+    rw whole (members_fewer (env m) n (is_union_in m.done n) (named_members m n))
 
 element_step : (b : Bool) (p q : Part) → (if b then Some p else None) ≡ Some q → p ≡ q
 element_step true p q e = ap (part_or p) e
 element_step false p q e = cc
 
 -- the first part of a complete type
-pub part_lower : (m : Known) (t : Ty) (q : Part) → IsBuilt m → is_complete_in (env m) t ≡ true → part_in (completions m) (bare t) 0 ≡ Some q → part_count (layout_in (env m) q.t) < part_count (layout_in (env m) t)
+pub part_lower : (m : Known) (t : Ty) (q : Part) → IsBuilt m → is_complete_in (env m) t ≡ true → part_in (completions m) (bare_type t) 0 ≡ Some q → part_count (layout_in (env m) q.t) < part_count (layout_in (env m) t)
 part_lower m (ConstOf t) q built complete e =
     let h = part_lower m t q built complete e in
     let more = const_count t (layout_in (env m) t) in
@@ -50,12 +50,12 @@ part_lower m (ArrayOf t (Some n)) q built complete e =
 part_lower m (ArrayOf t None) q built complete e = cc
 part_lower m (StructTag n) q built complete e =
     let members = members_named (trees m) m.done n in
-    let at : part_number 0 (struct_placed (layout_at (env m)) 0 (named m n)) ≡ Some q = sym (ap (λ ms. part_number 0 (struct_placed (layout_at (env m)) 0 ms)) members) ∙ e in
-    struct_lower (env m) (part_count (or_none (look (env m) n))) (named m n) q (tag_fewer m n built complete) at
+    let at : part_number 0 (struct_placed (layout_at (env m)) 0 (named_members m n)) ≡ Some q = sym (ap (λ ms. part_number 0 (struct_placed (layout_at (env m)) 0 ms)) members) ∙ e in
+    struct_lower (env m) (part_count (or_none (look (env m) n))) (named_members m n) q (tag_fewer m n built complete) at
 part_lower m (UnionTag n) q built complete e =
     let members = members_named (trees m) m.done n in
-    let at : part_number 0 (first_member (union_placed (layout_at (env m)) (named m n))) ≡ Some q = sym (ap (λ ms. part_number 0 (first_member (union_placed (layout_at (env m)) ms))) members) ∙ e in
-    union_lower (env m) (part_count (or_none (look (env m) n))) (named m n) q (tag_fewer m n built complete) at
+    let at : part_number 0 (first_member (union_placed (layout_at (env m)) (named_members m n))) ≡ Some q = sym (ap (λ ms. part_number 0 (first_member (union_placed (layout_at (env m)) ms))) members) ∙ e in
+    union_lower (env m) (part_count (or_none (look (env m) n))) (named_members m n) q (tag_fewer m n built complete) at
 part_lower m VoidTy q built complete e = cc
 part_lower m (IntTy k) q built complete e = cc
 part_lower m (PointerTo t) q built complete e = cc
@@ -67,7 +67,7 @@ map_some whole (Some p) q e = (p, (refl, ap (λ o. (part_or p o).t) e))
 
 pub part_at_lower : (m : Known) (p q : Part) → IsBuilt m → is_complete_in (env m) p.t ≡ true → part_at (completions m) p 0 ≡ Some q → part_count (layout_in (env m) q.t) < part_count (layout_in (env m) p.t)
 part_at_lower m p q built complete e =
-    let h = map_some p (part_in (completions m) (bare p.t) 0) q e in
+    let h = map_some p (part_in (completions m) (bare_type p.t) 0) q e in
     let low = part_lower m p.t h.0 built complete h.1.0 in
     let same = sym h.1.1 in
     rw same low

@@ -5,7 +5,7 @@ use Rattle.pv_types.specs.declared.terms.TypeId.{TypeId}
 use Rattle.pv_types.specs.Ty.{Ty, StructTag, UnionTag}
 use Rattle.pv_types.specs.Layouts.{Entry, Layout, Part, Named, Placed, layout_in, layout_at, layout_of, struct_placed, union_placed, is_complete_in, look}
 use Rattle.pv_types.specs.LayoutParts.{struct_end, union_end, or_none}
-use Rattle.pv_types.specs.Formed.{AreComplete, completions, named, members_in, is_union_in, MembersBelow, IsBuilt}
+use Rattle.pv_types.specs.Formed.{AreComplete, completions, named_members, members_in, is_union_in, MembersBelow, IsBuilt}
 use Rattle.pv_types.specs.Known.{Known, tree, trees, env, named_in}
 use Rattle.pv_types.proofs.Fills.{struct_end-ge, union_end-ge}
 use Rattle.pv_types.proofs.Made.{made}
@@ -49,9 +49,9 @@ struct_known m n (x ∷ ms) o zero p h e = let same = sym (ap (place_or p) e) in
 struct_known m n (x ∷ ms) o (suc i) p h e = struct_known m n ms _ i p h.1 e
 
 -- the size of a completed structure is at least where its last member ends
-struct_size : (m : Known) (tag : ℕ) → IsBuilt m → is_some (look (env m) tag) ≡ true → is_union_in m.done tag ≡ false → struct_end (env m) 0 (named m tag) ≤ (or_none (look (env m) tag)).size
+struct_size : (m : Known) (tag : ℕ) → IsBuilt m → is_some (look (env m) tag) ≡ true → is_union_in m.done tag ≡ false → struct_end (env m) 0 (named_members m tag) ≤ (or_none (look (env m) tag)).size
 struct_size m tag built there flag =
-    let whole : or_none (look (env m) tag) ≡ layout_of (env m) tag false (named m tag) = ap or_none (made m tag built there).laid ∙ ap (λ u. layout_of (env m) tag u (named m tag)) flag in
+    let whole : or_none (look (env m) tag) ≡ layout_of (env m) tag false (named_members m tag) = ap or_none (made m tag built there).laid ∙ ap (λ u. layout_of (env m) tag u (named_members m tag)) flag in
     let size = ap (λ (l : Layout). l.size) whole in
     rw size (omega arith)
 
@@ -70,14 +70,14 @@ struct_found m whole tag i start t built there flag small e =
     let h = made m tag built there in
     let place = sym e in
     let numbers = ap (part_number i) (struct_named m 0 (members_in m.done tag)) ∙ sym (numbered m (struct_places m 0 (members_in m.done tag)) i) in
-    let part : part_number i (struct_placed (layout_at (env m)) 0 (named m tag)) ≡ Some (placed m (start, t)) = numbers ∙ ap (option_map (placed m)) place in
-    let end : start + (layout_in (env m) (tree m t.0)).size ≤ struct_end (env m) 0 (named m tag) = struct_inside (env m) (named m tag) 0 i (placed m (start, t)) part in
+    let part : part_number i (struct_placed (layout_at (env m)) 0 (named_members m tag)) ≡ Some (placed m (start, t)) = numbers ∙ ap (option_map (placed m)) place in
+    let end : start + (layout_in (env m) (tree m t.0)).size ≤ struct_end (env m) 0 (named_members m tag) = struct_inside (env m) (named_members m tag) 0 i (placed m (start, t)) part in
     let size = struct_size m tag built there flag in
     record {
       part = ap (λ o. option_map (within (part_of m whole)) (option_map (placed m) o)) e ∙ ap (option_map (within (part_of m whole))) (sym (struct_part m tag i));
       is = record {
         known = struct_known m (length m.terms) (members_in m.done tag) 0 i (start, t) h.known place;
-        complete = struct_complete (env m) (named m tag) 0 i (placed m (start, t)) h.complete part;
+        complete = struct_complete (env m) (named_members m tag) 0 i (placed m (start, t)) h.complete part;
         end = omega (arith, end, size, small);
       };
       small = omega (arith, end, size, small);
@@ -91,9 +91,9 @@ struct_none m whole tag i e = ap (λ o. option_map (within (part_of m whole)) (o
 union_first : (env : List Entry) (x : Named) (ms : List Named) (k : ℕ) → (layout_in env x.t).size ≤ union_end env k (x ∷ ms)
 union_first env x ms k = let more = union_end-ge env ms (max k (layout_in env x.t).size) in omega (arith, more)
 
-union_size : (m : Known) (tag : ℕ) (x : Named) (ms : List Named) → IsBuilt m → is_some (look (env m) tag) ≡ true → is_union_in m.done tag ≡ true → named m tag ≡ x ∷ ms → (layout_in (env m) x.t).size ≤ (or_none (look (env m) tag)).size
+union_size : (m : Known) (tag : ℕ) (x : Named) (ms : List Named) → IsBuilt m → is_some (look (env m) tag) ≡ true → is_union_in m.done tag ≡ true → named_members m tag ≡ x ∷ ms → (layout_in (env m) x.t).size ≤ (or_none (look (env m) tag)).size
 union_size m tag x ms built there flag e =
-    let whole : or_none (look (env m) tag) ≡ layout_of (env m) tag true (x ∷ ms) = ap or_none (made m tag built there).laid ∙ ap (λ u. layout_of (env m) tag u (named m tag)) flag ∙ ap (layout_of (env m) tag true) e in
+    let whole : or_none (look (env m) tag) ≡ layout_of (env m) tag true (x ∷ ms) = ap or_none (made m tag built there).laid ∙ ap (λ u. layout_of (env m) tag u (named_members m tag)) flag ∙ ap (layout_of (env m) tag true) e in
     let size = ap (λ (l : Layout). l.size) whole in
     let first = union_first (env m) x ms 0 in
     rw size (omega (arith, first))
@@ -102,7 +102,7 @@ union_part : (m : Known) (whole : Subobject) (tag : ℕ) (x : Member) (ms : List
     → whole.offset + (or_none (look (env m) tag)).size ≤ 2 ^ 32 → members_in m.done tag ≡ x ∷ ms → Found m whole (UnionTag tag) 0 (record { offset = whole.offset; t = x.t })
 union_part m whole tag x ms built there flag small e =
     let h = made m tag built there in
-    let trees_e : named m tag ≡ named_in (trees m) (x ∷ ms) = ap (named_in (trees m)) e in
+    let trees_e : named_members m tag ≡ named_in (trees m) (x ∷ ms) = ap (named_in (trees m)) e in
     let size = union_size m tag _ _ built there flag trees_e in
     let known : MembersBelow (length m.terms) (x ∷ ms) = rw e at h.known in
     let complete : AreComplete (env m) (named_in (trees m) (x ∷ ms)) = rw trees_e at h.complete in

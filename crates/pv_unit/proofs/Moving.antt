@@ -15,7 +15,7 @@ use Rattle.pv_typed.specs.Constants.{and_then}
 use Rattle.pv_check.specs.Open.{state_of, IsOpen, Goes}
 use Rattle.pv_check.proofs.Opening.{open_goes, same_goes, then_goes}
 use Rattle.pv_unit.specs.declared.plain.Place.{Place}
-use Rattle.pv_unit.specs.Stated.{around_in, optional_in, statements_in, stated, IsOptional, AreStatements, Moves}
+use Rattle.pv_unit.specs.Stated.{around_in, optional_in, statements_in, statement_after, IsOptional, AreStatements, Moves}
 
 -- a node below another one is there
 pub within : (f : Forest) (kind : Tree → Bool) (n k : ℕ) (x : NodeId) → n < k → Has f n kind x → Has f k kind x
@@ -93,6 +93,6 @@ step_none o f e = ap (λ q. and_then q f) e
 
 -- a statement that was made
 pub made_is : (texts : List (List ℕ)) (s : Raw) (a b : Stored) (n : NodeId) (x : TypedStatement) → statement_at b n ≡ x → state_of texts false s b ≡ state_of texts false s a
-    → Some (stated texts s b n) ≡ give (Some x) (state_of texts false s a)
+    → Some (statement_after texts s b n) ≡ give (Some x) (state_of texts false s a)
 made_is texts s a b n x e same =
     ap (λ (y : TypedStatement). Some (record { value = y; state = state_of texts false s b })) e ∙ ap (λ (z : State). Some (record { value = x; state = z })) same

@@ -14,15 +14,15 @@ use Rattle.pv_typed.specs.TypedUnits.{WholeUnit, TypedObject, TypedFunction, obj
 use Rattle.pv_typed.specs.UnitParts.{no_object, no_function}
 use Rattle.pv_typed.proofs.Each.{each_append}
 use Rattle.pv_check.specs.State.{State, After, env, Meaning, ObjectName, FunctionName, TypedefOf, ConstantOf, TagMeaning, CompositeTag, EnumerationTag, OpenEnumeration, give}
-use Rattle.pv_check.specs.Scopes.{look, look_tag, find, innermost, entered, bind, bind_tag}
+use Rattle.pv_check.specs.Scopes.{look, look_tag, find, innermost_scope, in_new_scope, bind, bind_tag}
 use Rattle.pv_typed.specs.Constants.{and_then}
 use Rattle.pv_check.specs.Specifiers.{Seen}
-use Rattle.pv_check.specs.Tags.{with_member, tag_named, composite_named, enumeration_named, opened, opened_named, is_open, completed, with_done, filed_with, opened_enumeration, closed_enumeration, enumerated, is_union_word}
+use Rattle.pv_check.specs.Tags.{with_member, tag_named, composite_named, enumeration_named, tag_before_list, opened_named, is_open, completion_of, with_done, filed_with, opened_enumeration, closed_enumeration, enumerator_step, is_union_word}
 use Rattle.pv_check.specs.TagParts.{some_members}
-use Rattle.pv_check.specs.Derivations.{Parameter as OneParameter, Steps, declared_name, optional_name, may_be_variadic, Signature, proper, with_function, with_parameter, with_object, derived, adjusted}
+use Rattle.pv_check.specs.Derivations.{Parameter as OneParameter, Steps, declared_name, optional_name, may_be_variadic, Signature, proper_parameters, with_function, with_parameter, with_object, derived_type, adjustment_of}
 use Rattle.pv_check.specs.Primary.{name_of}
 use Rattle.pv_check.specs.PrimaryParts.{is_of_library}
-use Rattle.pv_check.specs.Rows.{operand, integer_value, plain, member_of, callee, called_by}
+use Rattle.pv_check.specs.Rows.{operand, integer_value, type_without_storage, member_of, callee, called_by}
 use Rattle.pv_check.specs.RowParts.{by_function}
 use Rattle.pv_check.specs.Typing.{types, arguments, type_named, specifiers, specifier_in, specifier, members, member_in, member_declarators, member_declarator, enumerators, enumerator_in, enumerator_value, steps, optional_steps, array_size, parameters, parameter_in}
 use Rattle.pv_unit.specs.Redeclarations.{unit_name}
@@ -144,7 +144,7 @@ opened_at_keeps n union k (Some (CompositeTag u i)) s h = if_keeps n _ _ (some_k
 opened_at_keeps n union k (Some EnumerationTag) s h = none_keeps n
 opened_at_keeps n union k (Some OpenEnumeration) s h = none_keeps n
 
-opened_keeps : (n : List (List ℕ)) (union : Bool) (k : Option ℕ) (s : State) → AreNamed n s.unit → Keeps n (opened union k s)
+opened_keeps : (n : List (List ℕ)) (union : Bool) (k : Option ℕ) (s : State) → AreNamed n s.unit → Keeps n (tag_before_list union k s)
 opened_keeps n union None s h = some_keeps n _ _ h
 opened_keeps n union (Some k) s h = opened_at_keeps n union k _ s h
 
@@ -156,15 +156,15 @@ filed_same n (Some k) t s h = here _
     here true = h
     here false = h
 
-completed_keeps : (n : List (List ℕ)) (union : Bool) (k : Option ℕ) (i : ℕ) (ms : List Named) (s : State) → AreNamed n s.unit → Keeps n (completed union k i ms s)
+completed_keeps : (n : List (List ℕ)) (union : Bool) (k : Option ℕ) (i : ℕ) (ms : List Named) (s : State) → AreNamed n s.unit → Keeps n (completion_of union k i ms s)
 completed_keeps n union k i ms s h =
     if_keeps n (is_open s i) _ (if_keeps n _ _ (some_keeps n (tag_type union i) _ (filed_same n k (tag_type union i) (with_done union i ms s) h)))
 
 some_members_keep : (n : List (List ℕ)) (a : After (List Named)) → AreNamed n a.state.unit → Keeps n (some_members a)
 some_members_keep n a h = if_keeps n _ _ (some_keeps n a.value a.state h)
 
-enumerated_keeps : (n : List (List ℕ)) (k : ℕ) (v : ℤ) (s : State) → AreNamed n s.unit → Keeps n (enumerated k v s)
-enumerated_keeps n k v s h = if_keeps n _ _ (here (is_some (find (innermost s.scopes).names k)))
+enumerated_keeps : (n : List (List ℕ)) (k : ℕ) (v : ℤ) (s : State) → AreNamed n s.unit → Keeps n (enumerator_step k v s)
+enumerated_keeps n k v s h = if_keeps n _ _ (here (is_some (find (innermost_scope s.scopes).names k)))
   where
     here : (b : Bool) → Keeps n (and_then (if b then None else Some (bind k (ConstantOf v) s)) (give (Some (v +ℤ pos 1))))
     here true = none_keeps n
@@ -173,7 +173,7 @@ enumerated_keeps n k v s h = if_keeps n _ _ (here (is_some (find (innermost s.sc
 -- an enumeration's tag before its list, and behind it
 opened_then : {A : Type 0} (n : List (List ℕ)) (k : Option ℕ) (s : State) (f : State → Option (After A)) → AreNamed n s.unit → ((z : State) → AreNamed n z.unit → Keeps n (f z)) → Keeps n (and_then (opened_enumeration k s) f)
 opened_then n None s f h g = g s h
-opened_then {A} n (Some k) s f h g = here (is_some (find (innermost s.scopes).tags k))
+opened_then {A} n (Some k) s f h g = here (is_some (find (innermost_scope s.scopes).tags k))
   where
     here : (b : Bool) → Keeps n (and_then (if b then None else Some (bind_tag k OpenEnumeration s)) f)
     here true = none_keeps n
@@ -187,7 +187,7 @@ closed_same n (Some k) s h = h
 
 parameter_keeps : (n : List (List ℕ)) (ps : List OneParameter) (k : Option (ℕ × ℕ)) (s : State) (t : Ty) → AreNamed n s.unit → Keeps n (with_parameter ps k s t)
 parameter_keeps n ps None s t h = some_keeps n _ s h
-parameter_keeps n ps (Some (k, line)) s t h = here (is_some (find (innermost s.scopes).names k))
+parameter_keeps n ps (Some (k, line)) s t h = here (is_some (find (innermost_scope s.scopes).names k))
   where
     here : (b : Bool) → Keeps n (and_then (if b then None else Some (bind k (ObjectName (length s.unit.objects)) s)) (λ (x : State). give (Some (ps ++ (record { t = t; name = Some k; object = Some (length s.unit.objects) } ∷ []))) (with_object (Some (k, line)) t x)))
     here true = none_keeps n
@@ -196,18 +196,18 @@ parameter_keeps n ps (Some (k, line)) s t h = here (is_some (find (innermost s.s
 -- a list of parameters in a scope of its own
 list_keeps : (n : List (List ℕ)) (v : Bool) (x : Steps) (o : Option (After (List OneParameter))) → Keeps n o → Keeps n (and_then o (by_function v x))
 list_keeps n v x None h = none_keeps n
-list_keeps n v x (Some a) h = here (proper v a.value)
+list_keeps n v x (Some a) h = here (proper_parameters v a.value)
   where
-    here : (o : Option (List OneParameter)) → Keeps n (and_then (and_then o (λ ps. give (Some (record { parameters = ps; variadic = v; scope = innermost a.state.scopes })) (record a.state { scopes = take (length a.state.scopes - 1) a.state.scopes }))) (λ (g : After Signature). give (Some (with_function x g.value)) g.state))
+    here : (o : Option (List OneParameter)) → Keeps n (and_then (and_then o (λ ps. give (Some (record { parameters = ps; variadic = v; scope = innermost_scope a.state.scopes })) (record a.state { scopes = take (length a.state.scopes - 1) a.state.scopes }))) (λ (g : After Signature). give (Some (with_function x g.value)) g.state))
     here None = none_keeps n
     here (Some ps) = some_keeps n _ _ (h.held a refl)
 
 member_keeps : (k : Option (ℕ × ℕ)) (t : Ty) (ms : List Named) (n : List (List ℕ)) (a : After Steps) → AreNamed n a.state.unit → Keeps n (member_of k t ms a)
 member_keeps None t ms n a h = none_keeps n
-member_keeps (Some (k, line)) t ms n a h = value_then n (derived false (env a.state) a.value.list t) _ (λ (u : Ty). give_keeps n (with_member a.state ms k u) a.state h)
+member_keeps (Some (k, line)) t ms n a h = value_then n (derived_type false (env a.state) a.value.list t) _ (λ (u : Ty). give_keeps n (with_member a.state ms k u) a.state h)
 
-plain_keeps : {B : Type 0} (n : List (List ℕ)) (a : After Seen) (f : After Ty → Option (After B)) → AreNamed n a.state.unit → ((b : After Ty) → AreNamed n b.state.unit → Keeps n (f b)) → Keeps n (and_then (plain a) f)
-plain_keeps n a f h k = then_keeps n (plain a) f (give_keeps n _ a.state h) k
+plain_keeps : {B : Type 0} (n : List (List ℕ)) (a : After Seen) (f : After Ty → Option (After B)) → AreNamed n a.state.unit → ((b : After Ty) → AreNamed n b.state.unit → Keeps n (f b)) → Keeps n (and_then (type_without_storage a) f)
+plain_keeps n a f h k = then_keeps n (type_without_storage a) f (give_keeps n _ a.state h) k
 
 mutual
   pub types_keep : (e : ExpressionTree) (n : List (List ℕ)) (s : State) → AreNamed n s.unit → Keeps n (types e s)
@@ -332,13 +332,13 @@ mutual
   steps_keep (Pointer line consts d) n s h = then_keeps n _ _ (steps_keep d n s h) (λ m j. some_keeps n _ m.state j)
   steps_keep (Array line d z) n s h = then_keeps n _ _ (steps_keep d n s h) (λ a i. then_keeps n _ _ (size_keeps z n a.state i) (λ m j. some_keeps n _ m.state j))
   steps_keep (FunctionDeclarator line d ps v) n s h =
-      if_keeps n (may_be_variadic v d s) _ (then_keeps n _ _ (steps_keep d n s h) (λ a i. list_keeps n v a.value _ (parameters_keep ps n (entered a.state) i)))
+      if_keeps n (may_be_variadic v d s) _ (then_keeps n _ _ (steps_keep d n s h) (λ a i. list_keeps n v a.value _ (parameters_keep ps n (in_new_scope a.state) i)))
   steps_keep (AbstractParen line d) n s h = steps_keep d n s h
   steps_keep (AbstractPointer line consts d) n s h = then_keeps n _ _ (optional_keeps d n s h) (λ m j. some_keeps n _ m.state j)
   steps_keep (AbstractArray line d z) n s h = then_keeps n _ _ (optional_keeps d n s h) (λ a i. then_keeps n _ _ (size_keeps z n a.state i) (λ m j. some_keeps n _ m.state j))
   steps_keep (AbstractFunction line d ps true) n s h = none_keeps n
   steps_keep (AbstractFunction line d ps false) n s h =
-      then_keeps n _ _ (optional_keeps d n s h) (λ a i. list_keeps n false a.value _ (parameters_keep ps n (entered a.state) i))
+      then_keeps n _ _ (optional_keeps d n s h) (λ a i. list_keeps n false a.value _ (parameters_keep ps n (in_new_scope a.state) i))
 
   pub optional_keeps : (o : OptionalTree) (n : List (List ℕ)) (s : State) → AreNamed n s.unit → Keeps n (optional_steps o s)
   optional_keeps Absent n s h = some_keeps n _ s h
@@ -365,7 +365,7 @@ mutual
   pub parameter_in_keeps : (x : Tree) (n : List (List ℕ)) (p : After (List OneParameter)) → AreNamed n p.state.unit → Keeps n (parameter_in x p)
   parameter_in_keeps (OfDeclaration (Parameter line specs d)) n p h =
       then_keeps n _ _ (specifiers_keep specs n p.state h) (λ a j. plain_keeps n a _ j
-      (λ b k. then_keeps n _ _ (optional_keeps d n b.state k) (λ c m. value_then n (and_then (derived true (env c.state) c.value.list b.value) adjusted) (with_parameter p.value (optional_name d) c.state) (λ t. parameter_keeps n p.value (optional_name d) c.state t m))))
+      (λ b k. then_keeps n _ _ (optional_keeps d n b.state k) (λ c m. value_then n (and_then (derived_type true (env c.state) c.value.list b.value) adjustment_of) (with_parameter p.value (optional_name d) c.state) (λ t. parameter_keeps n p.value (optional_name d) c.state t m))))
   parameter_in_keeps (OfDeclaration (FunctionTree line specs d b)) n p h = none_keeps n
   parameter_in_keeps (OfDeclaration (Declaration line specs ds)) n p h = none_keeps n
   parameter_in_keeps (OfDeclaration (InitDeclarator line d i)) n p h = none_keeps n

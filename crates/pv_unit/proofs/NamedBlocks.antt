@@ -9,20 +9,20 @@ use Rattle.pv_types.specs.Layouts.{is_complete_in, tag_type}
 use Rattle.pv_tree.specs.Syntax.{DeclarationTree, Function as FunctionTree, Declaration, InitDeclarator, MemberDeclaration, Enumerator, Parameter, TypeName, DeclaratorTree, Tree, OfExpression, OfDeclaration, OfDeclarator, OfSpecifier, OfInitializer, OfStatement, Trees, NoTrees, Then, OptionalTree, Absent, Present}
 use Rattle.pv_typed.specs.TypedUnits.{object_at}
 use Rattle.pv_check.specs.State.{State, After, env, TagMeaning, CompositeTag, EnumerationTag, OpenEnumeration, give}
-use Rattle.pv_check.specs.Scopes.{find, innermost}
+use Rattle.pv_check.specs.Scopes.{find, innermost_scope}
 use Rattle.pv_typed.specs.Constants.{and_then}
-use Rattle.pv_check.specs.Specifiers.{Specified, specified}
-use Rattle.pv_check.specs.Derivations.{Steps, declared_name, derived}
+use Rattle.pv_check.specs.Specifiers.{Specified, specification_of}
+use Rattle.pv_check.specs.Derivations.{Steps, declared_name, derived_type}
 use Rattle.pv_typed.specs.TypedTree.{is_function}
 use Rattle.pv_check.specs.Tags.{composite_named, tag_alone}
 use Rattle.pv_check.specs.Typing.{specifiers, steps}
-use Rattle.pv_unit.specs.Blocks.{Reached, block_storage, with_initializer, block_object, is_present, block_declarator, block_init_declarator, block_declarators, block_alone, block_declaration, reached}
+use Rattle.pv_unit.specs.Blocks.{Reached, block_storage, with_initializer, block_object, is_present, block_declarator, block_init_declarator, block_declarators, block_alone, block_declaration, reached_object}
 use Rattle.pv_unit.specs.BlockParts.{block_declared}
 use Rattle.pv_unit.specs.Declarations.{DeclaredType, only_tag, tags_alone, specified_by, type_declared}
 use Rattle.pv_unit.specs.DeclarationParts.{declares_something, with_unsized, has_unsized}
 use Rattle.pv_unit.specs.Redeclarations.{new_object}
 use Rattle.pv_unit.specs.Initializers.{Given}
-use Rattle.pv_unit.specs.ValueRules.{initialized, with_given}
+use Rattle.pv_unit.specs.ValueRules.{typed_initializer, with_given}
 use Rattle.pv_unit.proofs.Named.{AreNamed, object_added, object_changed, Keeps, specifiers_keep, steps_keep, none_keeps, some_keeps, give_keeps, then_keeps, value_then}
 use Rattle.pv_unit.proofs.NamedGiven.{initialized_keeps}
 
@@ -38,13 +38,13 @@ state_then n (Some s) x h = some_keeps n x s h
 -- ---- declarations in blocks
 
 pub specified_keeps : (specs : Trees) (n : List (List ℕ)) (s : State) → AreNamed n s.unit → Keeps n (specified_by specs s)
-specified_keeps specs n s h = then_keeps n (specifiers specs s) (λ a. give (specified a.value) a.state) (specifiers_keep specs n s h) (λ a k. give_keeps n (specified a.value) a.state k)
+specified_keeps specs n s h = then_keeps n (specifiers specs s) (λ a. give (specification_of a.value) a.state) (specifiers_keep specs n s h) (λ a k. give_keeps n (specification_of a.value) a.state k)
 
 abbrev made : Bool → Ty → After Steps → Option (After DeclaredType)
-made unsized t a = give (and_then (derived unsized (env a.state) a.value.list t) (with_unsized (has_unsized a.value.list))) a.state
+made unsized t a = give (and_then (derived_type unsized (env a.state) a.value.list t) (with_unsized (has_unsized a.value.list))) a.state
 
 pub declared_keeps : (unsized : Bool) (t : Ty) (d : DeclaratorTree) (n : List (List ℕ)) (s : State) → AreNamed n s.unit → Keeps n (type_declared unsized t d s)
-declared_keeps unsized t d n s h = then_keeps n (steps d s) (made unsized t) (steps_keep d n s h) (λ a k. give_keeps n (and_then (derived unsized (env a.state) a.value.list t) (with_unsized (has_unsized a.value.list))) a.state k)
+declared_keeps unsized t d n s h = then_keeps n (steps d s) (made unsized t) (steps_keep d n s h) (λ a k. give_keeps n (and_then (derived_type unsized (env a.state) a.value.list t) (with_unsized (has_unsized a.value.list))) a.state k)
 
 -- 6.7.9: an object with its initializer
 pub given_named : (n : List (List ℕ)) (o : ℕ) (f : After Given) → AreNamed n f.state.unit → AreNamed n (with_given o f.value f.state).unit
@@ -64,7 +64,7 @@ if_state n false s h = tt
 
 initializer_state : (n : List (List ℕ)) (lasting : Bool) (o : ℕ) (i : OptionalTree) (s : State) → AreNamed n s.unit → StateKeeps n (with_initializer lasting o i s)
 initializer_state n lasting o Absent s h = if_state n (is_complete_in (env s) (object_at s.unit o).t) s h
-initializer_state n lasting o (Present (OfInitializer i)) s h = given_state n o (initialized lasting (object_at s.unit o).t i s) (initialized_keeps lasting (object_at s.unit o).t i n s h)
+initializer_state n lasting o (Present (OfInitializer i)) s h = given_state n o (typed_initializer lasting (object_at s.unit o).t i s) (initialized_keeps lasting (object_at s.unit o).t i n s h)
 initializer_state n lasting o (Present (OfExpression x)) s h = tt
 initializer_state n lasting o (Present (OfDeclaration x)) s h = tt
 initializer_state n lasting o (Present (OfDeclarator x)) s h = tt
@@ -77,7 +77,7 @@ not_state n false o h = h
 
 block_object_state : (n : List (List ℕ)) (lasting : Bool) (t : Ty) (k : ℕ × ℕ) (i : OptionalTree) (s : State) → AreNamed n s.unit → StateKeeps n (block_object lasting t k i s)
 block_object_state n lasting t k i s h =
-    not_state n (is_some (find (innermost s.scopes).names k.0)) (with_initializer lasting (length s.unit.objects) i (new_object k.0 k.1 t lasting s))
+    not_state n (is_some (find (innermost_scope s.scopes).names k.0)) (with_initializer lasting (length s.unit.objects) i (new_object k.0 k.1 t lasting s))
     (initializer_state n lasting (length s.unit.objects) i (new_object k.0 k.1 t lasting s) (object_added n s.unit k.0 k.1 t lasting h))
 
 pub not_keeps : {A : Type 0} (n : List (List ℕ)) (b : Bool) (o : Option (After A)) → Keeps n o → Keeps n (if b then None else o)
@@ -87,13 +87,13 @@ not_keeps n false o h = h
 abbrev object_behind : Bool → ℕ × ℕ → OptionalTree → List Reached → After DeclaredType → Option (After (List Reached))
 object_behind lasting k i xs a =
     if is_function a.value.t then None
-    else and_then (block_object lasting a.value.t k i a.state) (give (Some (xs ++ reached lasting (length a.state.unit.objects) k)))
+    else and_then (block_object lasting a.value.t k i a.state) (give (Some (xs ++ reached_object lasting (length a.state.unit.objects) k)))
 
 declarator_keeps : (lasting : Bool) (t : Ty) (d : DeclaratorTree) (i : OptionalTree) (n : List (List ℕ)) (r : After (List Reached)) → AreNamed n r.state.unit → Keeps n (block_declarator lasting t d i r)
 declarator_keeps lasting t d i n r h =
     value_then n (declared_name d) _ (λ (k : ℕ × ℕ). then_keeps n (type_declared (is_present i) t d r.state) (object_behind lasting k i r.value) (declared_keeps (is_present i) t d n r.state h)
-    (λ a j. not_keeps n (is_function a.value.t) (and_then (block_object lasting a.value.t k i a.state) (give (Some (r.value ++ reached lasting (length a.state.unit.objects) k))))
-    (state_then n (block_object lasting a.value.t k i a.state) (r.value ++ reached lasting (length a.state.unit.objects) k) (block_object_state n lasting a.value.t k i a.state j))))
+    (λ a j. not_keeps n (is_function a.value.t) (and_then (block_object lasting a.value.t k i a.state) (give (Some (r.value ++ reached_object lasting (length a.state.unit.objects) k))))
+    (state_then n (block_object lasting a.value.t k i a.state) (r.value ++ reached_object lasting (length a.state.unit.objects) k) (block_object_state n lasting a.value.t k i a.state j))))
 
 init_keeps : (lasting : Bool) (t : Ty) (x : Tree) (n : List (List ℕ)) (r : After (List Reached)) → AreNamed n r.state.unit → Keeps n (block_init_declarator lasting t x r)
 init_keeps lasting t (OfDeclaration (InitDeclarator line d i)) n r h = declarator_keeps lasting t d i n r h
@@ -125,8 +125,8 @@ composite_state n union k (Some EnumerationTag) s h = tt
 composite_state n union k (Some OpenEnumeration) s h = tt
 
 pub tag_state : (n : List (List ℕ)) (w : Word) (k : ℕ) (s : State) → AreNamed n s.unit → StateKeeps n (tag_alone w k s)
-tag_state n word.Struct k s h = composite_state n false k (find (innermost s.scopes).tags k) s h
-tag_state n word.Union k s h = composite_state n true k (find (innermost s.scopes).tags k) s h
+tag_state n word.Struct k s h = composite_state n false k (find (innermost_scope s.scopes).tags k) s h
+tag_state n word.Union k s h = composite_state n true k (find (innermost_scope s.scopes).tags k) s h
 tag_state n _ k s h = tt
 
 pub tags_keep : (specs : Trees) (s : State) (n : List (List ℕ)) (a : After Specified) → AreNamed n a.state.unit → Keeps {A = List Reached} n (and_then (tags_alone specs s a) (λ (b : After Specified). give (Some []) b.state))

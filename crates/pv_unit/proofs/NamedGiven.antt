@@ -5,7 +5,7 @@ use Rattle.pv_tree.specs.Syntax.{ExpressionTree, InitializerTree, Initial, Brace
 use Rattle.pv_tree.specs.Lines.{expression_line}
 use Rattle.pv_types.specs.Ty.{Ty}
 use Rattle.pv_types.specs.Layouts.{Part, layouts_of}
-use Rattle.pv_types.specs.Sorts.{bare}
+use Rattle.pv_types.specs.Sorts.{bare_type}
 use Rattle.pv_typed.specs.TypedTree.{TypedTree}
 use Rattle.pv_check.specs.State.{State}
 use Rattle.pv_check.specs.State as check
@@ -13,10 +13,10 @@ use Rattle.pv_check.specs.Rows.{operand}
 use Rattle.pv_check.specs.Typing.{types}
 use Rattle.pv_unit.specs.Rules.{Rules, After}
 use Rattle.pv_unit.specs.Parts.{part_at, can_be_initialized}
-use Rattle.pv_unit.specs.Initializers.{Stores, Shape, Fill, Single, Zero, Each, Wrong, shape_of, formed, filled_type, characters, single, valued, joined, each_initialized, initialized_object, given, whole}
-use Rattle.pv_unit.specs.InitializerParts.{allowed, as_constant, unqualified, zero_leaf, is_braced}
+use Rattle.pv_unit.specs.Initializers.{Stores, Shape, Fill, Single, Zero, Each, Wrong, shape_of, stores_of_shape, filled_type, characters, single_store, store_of_value, then_part, each_initialized, initialized_object, given_to, whole_object}
+use Rattle.pv_unit.specs.InitializerParts.{is_allowed, as_constant, unqualified_part, zero_leaf, is_braced}
 use Rattle.pv_unit.specs.Initializers as init
-use Rattle.pv_unit.specs.ValueRules.{values, lifted, lowered, initialized}
+use Rattle.pv_unit.specs.ValueRules.{values, to_initializers, to_expressions, typed_initializer}
 use Rattle.pv_unit.proofs.Named.{AreNamed, Keeps, operand_keeps, types_keep}
 
 -- where there is an answer, the unit is named so behind it
@@ -60,27 +60,27 @@ record AllHold (r : Rules State) : Type 0 where
   pub string : (line first more : ℕ) (n : List (List ℕ)) (s : State) → AreNamed n s.unit → AreNamed n (r.string line first more s).state.unit
 
 constant_holds : (r : Rules State) (lasting : Bool) (p : Part) (line : ℕ) (s : State) (e : TypedTree) (n : List (List ℕ)) → AreNamed n s.unit → Holds n (as_constant r lasting p line s e)
-constant_holds r lasting p line s e n h = if_holds n (allowed r lasting s e) _ (some_holds n _ s h)
+constant_holds r lasting p line s e n h = if_holds n (is_allowed r lasting s e) _ (some_holds n _ s h)
 
-single_holds : (r : Rules State) (d : AllHold r) (lasting : Bool) (p : Part) (a : ExpressionTree) (n : List (List ℕ)) (s : State) → AreNamed n s.unit → Holds n (single r lasting p a s)
+single_holds : (r : Rules State) (d : AllHold r) (lasting : Bool) (p : Part) (a : ExpressionTree) (n : List (List ℕ)) (s : State) → AreNamed n s.unit → Holds n (single_store r lasting p a s)
 single_holds r d lasting p a n s h =
-    then_holds n (r.operand a s) (valued r lasting p (expression_line a)) (d.operand a n s h)
-    (λ x k. value_then n (r.assigned x.state (bare p.t) x.value) (as_constant r lasting (unqualified p) (expression_line a) x.state)
-    (λ e. constant_holds r lasting (unqualified p) (expression_line a) x.state e n k))
+    then_holds n (r.operand a s) (store_of_value r lasting p (expression_line a)) (d.operand a n s h)
+    (λ x k. value_then n (r.assigned x.state (bare_type p.t) x.value) (as_constant r lasting (unqualified_part p) (expression_line a) x.state)
+    (λ e. constant_holds r lasting (unqualified_part p) (expression_line a) x.state e n k))
 
-formed_holds : (r : Rules State) (d : AllHold r) (lasting : Bool) (p : Part) (n : List (List ℕ)) (s : State) (each : Option (After State Stores)) (x : Shape) → AreNamed n s.unit → Holds n each → Holds n (formed r lasting p s each x)
+formed_holds : (r : Rules State) (d : AllHold r) (lasting : Bool) (p : Part) (n : List (List ℕ)) (s : State) (each : Option (After State Stores)) (x : Shape) → AreNamed n s.unit → Holds n each → Holds n (stores_of_shape r lasting p s each x)
 formed_holds r d lasting p n s each (Fill line first more) h k =
-    value_map n (filled_type (bare p.t) (length (r.string line first more s).value.characters)) (characters p line (r.string line first more s)) (λ t. d.string line first more n s h)
+    value_map n (filled_type (bare_type p.t) (length (r.string line first more s).value.characters)) (characters p line (r.string line first more s)) (λ t. d.string line first more n s h)
 formed_holds r d lasting p n s each (Single a) h k = single_holds r d lasting p a n s h
-formed_holds r d lasting p n s each (Zero a) h k = value_then n (zero_leaf (r.completed s) p) (λ leaf. single r lasting leaf a s) (λ leaf. single_holds r d lasting leaf a n s h)
+formed_holds r d lasting p n s each (Zero a) h k = value_then n (zero_leaf (r.completed s) p) (λ leaf. single_store r lasting leaf a s) (λ leaf. single_holds r d lasting leaf a n s h)
 formed_holds r d lasting p n s each Each h k = k
 formed_holds r d lasting p n s each Wrong h k = none_holds n
 
 abbrev next : Rules State → Bool → Part → InitializerTree → After State Stores → Option (After State Stores)
-next r lasting p i done = option_and_then (λ q. option_map (joined done.value) (init.initialized r lasting q i done.state)) (part_at (r.completed done.state) p done.value.count)
+next r lasting p i done = option_and_then (λ q. option_map (then_part done.value) (init.initializer_stores r lasting q i done.state)) (part_at (r.completed done.state) p done.value.count)
 
 mutual
-  tree_holds : (r : Rules State) (d : AllHold r) (lasting : Bool) (i : InitializerTree) (p : Part) (n : List (List ℕ)) (s : State) → AreNamed n s.unit → Holds n (init.initialized r lasting p i s)
+  tree_holds : (r : Rules State) (d : AllHold r) (lasting : Bool) (i : InitializerTree) (p : Part) (n : List (List ℕ)) (s : State) → AreNamed n s.unit → Holds n (init.initializer_stores r lasting p i s)
   tree_holds r d lasting (Initial line a) p n s h = formed_holds r d lasting p n s None (shape_of (r.completed s) p (Initial line a)) h (none_holds n)
   tree_holds r d lasting (Braces line inits comma) p n s h =
       formed_holds r d lasting p n s (each_initialized r lasting p inits s) (shape_of (r.completed s) p (Braces line inits comma)) h (each_holds r d lasting inits p n s h)
@@ -89,8 +89,8 @@ mutual
   each_holds r d lasting NoTrees p n s h = some_holds n _ s h
   each_holds r d lasting (Then before (OfInitializer i)) p n s h =
       then_holds n (each_initialized r lasting p before s) (next r lasting p i) (each_holds r d lasting before p n s h)
-      (λ done k. value_then n (part_at (r.completed done.state) p done.value.count) (λ q. option_map (joined done.value) (init.initialized r lasting q i done.state))
-      (λ q. map_holds n (init.initialized r lasting q i done.state) (joined done.value) (tree_holds r d lasting i q n done.state k) (λ a j. j)))
+      (λ done k. value_then n (part_at (r.completed done.state) p done.value.count) (λ q. option_map (then_part done.value) (init.initializer_stores r lasting q i done.state))
+      (λ q. map_holds n (init.initializer_stores r lasting q i done.state) (then_part done.value) (tree_holds r d lasting i q n done.state k) (λ a j. j)))
   each_holds r d lasting (Then before (OfExpression x)) p n s h = none_holds n
   each_holds r d lasting (Then before (OfDeclaration x)) p n s h = none_holds n
   each_holds r d lasting (Then before (OfDeclarator x)) p n s h = none_holds n
@@ -99,7 +99,7 @@ mutual
 
 -- ---- the rules of values
 
-lifted_holds : {A : Type 0} (n : List (List ℕ)) (o : Option (check.After A)) → Keeps n o → Holds n (lifted o)
+lifted_holds : {A : Type 0} (n : List (List ℕ)) (o : Option (check.After A)) → Keeps n o → Holds n (to_initializers o)
 lifted_holds n None h = none_holds n
 lifted_holds n (Some a) h = some_holds n a.value a.state (h.held a refl)
 
@@ -110,18 +110,18 @@ values_hold = record {
   string = λ line first more n s h. h;
 }
 
-lowered_keeps : {A : Type 0} (n : List (List ℕ)) (o : Option (After State A)) → Holds n o → Keeps n (lowered o)
+lowered_keeps : {A : Type 0} (n : List (List ℕ)) (o : Option (After State A)) → Holds n o → Keeps n (to_expressions o)
 lowered_keeps n None h = record { held = λ a e. absurd cc }
 lowered_keeps {A} n (Some x) h = record { held = λ a e. same a e }
   where
-    same : (a : check.After A) → lowered (Some x) ≡ Some a → AreNamed n a.state.unit
+    same : (a : check.After A) → to_expressions (Some x) ≡ Some a → AreNamed n a.state.unit
     same a e = let f : record { value = x.value; state = x.state } ≡ a = cc in subst (λ (y : check.After A). AreNamed n y.state.unit) f (h.held x refl)
 
 object_holds : (r : Rules State) (d : AllHold r) (lasting : Bool) (t : Ty) (i : InitializerTree) (n : List (List ℕ)) (s : State) → AreNamed n s.unit → Holds n (initialized_object r lasting t i s)
 unfolding initialized_object
 object_holds r d lasting t i n s h =
     if_holds n (can_be_initialized (layouts_of (r.completed s)) t) _
-    (map_holds n (init.initialized r lasting (whole t) i s) (given t (is_braced (r.completed s) (whole t) i)) (tree_holds r d lasting i (whole t) n s h) (λ a j. j))
+    (map_holds n (init.initializer_stores r lasting (whole_object t) i s) (given_to t (is_braced (r.completed s) (whole_object t) i)) (tree_holds r d lasting i (whole_object t) n s h) (λ a j. j))
 
-pub initialized_keeps : (lasting : Bool) (t : Ty) (i : InitializerTree) (n : List (List ℕ)) (s : State) → AreNamed n s.unit → Keeps n (initialized lasting t i s)
+pub initialized_keeps : (lasting : Bool) (t : Ty) (i : InitializerTree) (n : List (List ℕ)) (s : State) → AreNamed n s.unit → Keeps n (typed_initializer lasting t i s)
 initialized_keeps lasting t i n s h = lowered_keeps n (initialized_object values lasting t i s) (object_holds values values_hold lasting t i n s h)

@@ -9,12 +9,12 @@ use Rattle.pv_types.specs.Ty.{Ty, FunctionTy}
 use Rattle.pv_types.specs.Compatible.{are_compatible}
 use Rattle.pv_typed.specs.AddingParts.{taking}
 use Rattle.pv_typed.specs.Known.{Each, AreKnown}
-use Rattle.pv_typed.specs.Tables.{Stored, whole, nodes, object_in, function_in}
+use Rattle.pv_typed.specs.Tables.{Stored, whole_unit, nodes, object_in, function_in}
 use Rattle.pv_typed.specs.TypedStatement.{TypedStatement}
 use Rattle.pv_typed.specs.TypedUnits.{WholeUnit, TypedObject, TypedFunction, object_at, function_at}
 use Rattle.pv_typed.specs.Mains.{literal_text, heap_text, named_main}
 use Rattle.pv_check.specs.State.{State, After, Meaning, ObjectName, FunctionName, TypedefOf, env}
-use Rattle.pv_check.specs.Scopes.{find, innermost, left}
+use Rattle.pv_check.specs.Scopes.{find, innermost_scope, behind_scope}
 use Rattle.pv_typed.specs.Constants.{and_then}
 use Rattle.pv_check.specs.declared.specifiers.Storage.{Storage}
 use Rattle.pv_check.specs.declared.specifiers.Storage.TheVariants as storage
@@ -22,13 +22,13 @@ use Rattle.pv_check.specs.Specifiers.{Specified}
 use Rattle.pv_typed.specs.TypedTree.{is_function}
 use Rattle.pv_check.specs.Tags.{tag_alone}
 use Rattle.pv_types.specs.SameTypes.{same_type as same}
-use Rattle.pv_check.specs.Composite.{composite}
-use Rattle.pv_check.specs.Derivations.{Parameter, Signature, declared_name, derived}
+use Rattle.pv_check.specs.Composite.{composite_of}
+use Rattle.pv_check.specs.Derivations.{Parameter, Signature, declared_name, derived_type}
 use Rattle.pv_check.specs.Typing.{steps}
 use Rattle.pv_unit.specs.MainType.{main_type}
 use Rattle.pv_unit.specs.Redeclarations.{UnitState, unit_name, is_initialized, object_again, object_declared, function_again, may_have, function_declared}
-use Rattle.pv_unit.specs.ValueRules.{initialized}
-use Rattle.pv_unit.specs.Declarations.{specified_by, tags_alone, only_tag, type_declared, typedef_again, typedef_declared, noted, object_initialized, plain_entity, entity_declared, file_declarator, file_init_declarator, file_declarators, file_alone, file_declaration, typedef_entity, variable_entity}
+use Rattle.pv_unit.specs.ValueRules.{typed_initializer}
+use Rattle.pv_unit.specs.Declarations.{specified_by, tags_alone, only_tag, type_declared, typedef_again, typedef_declared, after_declaration, object_initialized, plain_entity, entity_declared, file_declarator, file_init_declarator, file_declarators, file_alone, file_declaration, typedef_entity, variable_entity}
 use Rattle.pv_unit.specs.DeclarationParts.{declares_something, object_noted, file_declared}
 use Rattle.pv_unit.specs.Definitions.{Head, may_be_defined, defined_once, head_of, may_head, head, may_end}
 use Rattle.pv_unit.specs.HeadParts.{head_stepped}
@@ -37,7 +37,7 @@ use Rattle.pv_unit.specs.FunctionParts.{with_body, body_of}
 use Rattle.pv_unit.specs.Identifiers.{IsIdentifier, HasIdentifiers}
 use Rattle.pv_unit.specs.Statements.{block_of}
 use Rattle.pv_unit.specs.TypedStatements.{typed_items}
-use Rattle.pv_unit.specs.Units.{typed_first, typed_last, typed_to, first, Typed, UnitComes}
+use Rattle.pv_unit.specs.Units.{typed_first, typed_last, typed_to, unit_at_first, Typed, UnitComes}
 use Rattle.pv_unit.proofs.Named.{IsOfSource, AreNamed, object_added, object_changed, function_added, function_changed, Keeps, some_keeps, if_keeps, steps_keep}
 use Rattle.pv_unit.proofs.NamedGiven.{initialized_keeps}
 use Rattle.pv_unit.proofs.NamedBlocks.{StateKeeps, given_named, specified_keeps, declared_keeps, tag_state}
@@ -89,25 +89,25 @@ module _ {Y : Type 0} (at : Y → State) (n : List (List ℕ)) where
 object_again_held : (m : Option Meaning) (k line : ℕ) (t : Ty) (n : List (List ℕ)) (u : UnitState) → AreNamed n u.state.unit → Held beside n (object_again m k line t u)
 object_again_held None k line t n u h = object_added n u.state.unit k line t true h
 object_again_held (Some (ObjectName o)) k line t n u h =
-    let c = composite (object_at u.state.unit o).t t in
+    let c = composite_of (object_at u.state.unit o).t t in
     if_held beside n (are_compatible (object_at u.state.unit o).t t) (Some (o, _)) (object_changed n u.state.unit o (λ x. record x { t = c }) (λ x p. p) h)
 object_again_held (Some _) k line t n u h = tt
 
 object_held : (k line : ℕ) (t : Ty) (n : List (List ℕ)) (u : UnitState) → AreNamed n u.state.unit → Held beside n (object_declared k line t u)
 object_held k line t n u h =
-    let m = find (innermost u.state.scopes).names k in
+    let m = find (innermost_scope u.state.scopes).names k in
     not_held beside n (named_main u.state.unit.names (unit_name k)) (object_again m k line t u) (object_again_held m k line t n u h)
 
 function_again_held : (m : Option Meaning) (k line : ℕ) (t : Ty) (n : List (List ℕ)) (u : UnitState) → AreNamed n u.state.unit → Held beside n (function_again m k line t u)
 function_again_held None k line t n u h = function_added n u.state.unit k line t h
 function_again_held (Some (FunctionName f)) k line t n u h =
-    let c = composite (function_at u.state.unit f).t t in
+    let c = composite_of (function_at u.state.unit f).t t in
     if_held beside n (are_compatible (function_at u.state.unit f).t t) (Some (f, _)) (function_changed n u.state.unit f (λ x. record x { t = c }) (λ x p. p) h)
 function_again_held (Some _) k line t n u h = tt
 
 function_held : (k line : ℕ) (t : Ty) (n : List (List ℕ)) (u : UnitState) → AreNamed n u.state.unit → Held beside n (function_declared k line t u)
 function_held k line t n u h =
-    let m = find (innermost u.state.scopes).names k in
+    let m = find (innermost_scope u.state.scopes).names k in
     if_held beside n (may_have u.state.unit.names (unit_name k) t) (function_again m k line t u) (function_again_held m k line t n u h)
 
 typedef_again_held : (m : Option Meaning) (k : ℕ) (t : Ty) (n : List (List ℕ)) (u : UnitState) → AreNamed n u.state.unit → Held alone n (typedef_again m k t u)
@@ -117,7 +117,7 @@ typedef_again_held (Some _) k t n u h = tt
 
 typedef_held : (k : ℕ) (t : Ty) (unsized : Bool) (n : List (List ℕ)) (u : UnitState) → AreNamed n u.state.unit → Held alone n (typedef_declared k t unsized u)
 typedef_held k t unsized n u h =
-    let m = find (innermost u.state.scopes).names k in
+    let m = find (innermost_scope u.state.scopes).names k in
     let v = record u { unsized_typedef = u.unsized_typedef || unsized } in
     not_held alone n (named_main u.state.unit.names (unit_name k) && not (is_function t && are_compatible t main_type)) (typedef_again m k t v) (typedef_again_held m k t n v h)
 
@@ -126,12 +126,12 @@ typedef_held k t unsized n u h =
 given_held : (i : InitializerTree) (n : List (List ℕ)) (a : ℕ × UnitState) → AreNamed n a.1.state.unit → Held alone n (object_initialized i a)
 given_held i n a h =
     let t = (object_at a.1.state.unit a.0).t in
-    not_held alone n (is_initialized false a.0 a.1.entities) _ (after_held alone n (initialized true t i a.1.state) _ (initialized_keeps true t i n a.1.state h) (λ f j. given_named n a.0 f j))
+    not_held alone n (is_initialized false a.0 a.1.entities) _ (after_held alone n (typed_initializer true t i a.1.state) _ (initialized_keeps true t i n a.1.state h) (λ f j. given_named n a.0 f j))
 
 plain_held : (x : Storage) (t : Ty) (k : ℕ × ℕ) (unsized : Bool) (n : List (List ℕ)) (u : UnitState) → AreNamed n u.state.unit → Held alone n (plain_entity x t k unsized u)
 plain_held x t k unsized n u h =
     either_held alone n (is_function t) _ _
-    (held_then alone n beside (function_declared k.0 k.1 t u) (λ a. Some (noted true a.0 false false unsized a.1)) (function_held k.0 k.1 t n u h) (λ a j. j))
+    (held_then alone n beside (function_declared k.0 k.1 t u) (λ a. Some (after_declaration true a.0 false false unsized a.1)) (function_held k.0 k.1 t n u h) (λ a j. j))
     (held_then alone n beside (object_declared k.0 k.1 t u) (λ a. Some (object_noted x unsized a)) (object_held k.0 k.1 t n u h) (λ a j. j))
 
 variable_held : (x : Storage) (t : Ty) (k : ℕ × ℕ) (unsized : Bool) (i : OptionalTree) (n : List (List ℕ)) (u : UnitState) → AreNamed n u.state.unit → Held alone n (variable_entity x t k unsized i u)
@@ -190,7 +190,7 @@ head_of_held _ g k n u h = tt
 stepped_held : (t : Ty) (d : DeclaratorTree) (n : List (List ℕ)) (u : UnitState) (k : ℕ × ℕ) → AreNamed n u.state.unit → Held beside n (head_stepped t d u k)
 stepped_held t d n u k h =
     after_held beside n (steps d u.state) _ (steps_keep d n u.state h)
-    (λ a j. value_held beside n a.value.signature _ (λ (g : Signature). value_held beside n (derived false (env a.state) a.value.list t) _ (λ (made : Ty). head_of_held made g k n (record u { state = a.state }) j)))
+    (λ a j. value_held beside n a.value.signature _ (λ (g : Signature). value_held beside n (derived_type false (env a.state) a.value.list t) _ (λ (made : Ty). head_of_held made g k n (record u { state = a.state }) j)))
 
 head_held : (specs : Trees) (d : DeclaratorTree) (n : List (List ℕ)) (u : UnitState) → AreNamed n u.state.unit → Held beside n (head specs d u)
 head_held specs d n u h =
@@ -212,8 +212,8 @@ body_held : (b : StatementTree) (x : Head × UnitState) (n : List (List ℕ)) �
 body_held (Block line items) x n h =
     let s = within x.0.signature.scope x.1.state in
     after_held alone n (typed_items (body_of x.0.result) items s) (defined_with x.0 line x.1) (items_keep items (body_of x.0.result) n s h)
-    (λ y j. body_named n x.0.function (block_of line y.value) (with_parameters x.0.function x.0.signature.parameters (left y.state))
-    (parameters_named n x.0.function x.0.signature.parameters (left y.state) j))
+    (λ y j. body_named n x.0.function (block_of line y.value) (with_parameters x.0.function x.0.signature.parameters (behind_scope y.state))
+    (parameters_named n x.0.function x.0.signature.parameters (behind_scope y.state) j))
 body_held _ x n h = tt
 
 -- ---- external declarations
@@ -245,7 +245,7 @@ to_held ds k n u h =
 named_unit : (t : Table) (ds : List DeclarationTree) (w : WholeUnit) → UnitComes t ds (Typed w) → AreNamed (literal_text ∷ heap_text ∷ t.names) w
 named_unit t ds w h =
     let n = literal_text ∷ heap_text ∷ t.names in
-    let held : Held alone n (Some h.0) = subst (Held alone n) h.1.0 (to_held ds (length ds) n (first t) (refl, tt, tt)) in
+    let held : Held alone n (Some h.0) = subst (Held alone n) h.1.0 (to_held ds (length ds) n (unit_at_first t) (refl, tt, tt)) in
     subst (AreNamed n) (sym h.1.3) held
 
 -- its names
@@ -263,11 +263,11 @@ each_mapped : {A B : Type 0} (f : A → B) (P : B → Type 0) (K : A → Type 0)
 each_mapped f P K Q g [] h k = tt
 each_mapped f P K Q g (x ∷ xs) h k = (g x h.0 k.0, each_mapped f P K Q g xs h.1 k.1)
 
-pub unit_identifiers : (t : Table) (ds : List DeclarationTree) (m : Stored) → UnitComes t ds (Typed (whole m)) → AreKnown m → HasIdentifiers t (whole m)
+pub unit_identifiers : (t : Table) (ds : List DeclarationTree) (m : Stored) → UnitComes t ds (Typed (whole_unit m)) → AreKnown m → HasIdentifiers t (whole_unit m)
 unit_identifiers t ds m h k =
-    let named = named_unit t ds (whole m) h in
+    let named = named_unit t ds (whole_unit m) h in
     record {
       names = named.0;
-      objects = each_mapped (object_in m.known (nodes m)) (λ (x : TypedObject). IsOfSource x.name) _ (λ (x : TypedObject). IsIdentifier t x.name) (λ e p q. identifier t (whole m) e.0.name named.0 p q.1) m.objects named.1 k.objects;
-      functions = each_mapped (function_in m.known (nodes m)) (λ (x : TypedFunction). IsOfSource x.name) _ (λ (x : TypedFunction). IsIdentifier t x.name) (λ e p q. identifier t (whole m) e.0.name named.0 p q.1) m.functions named.2 k.functions;
+      objects = each_mapped (object_in m.known (nodes m)) (λ (x : TypedObject). IsOfSource x.name) _ (λ (x : TypedObject). IsIdentifier t x.name) (λ e p q. identifier t (whole_unit m) e.0.name named.0 p q.1) m.objects named.1 k.objects;
+      functions = each_mapped (function_in m.known (nodes m)) (λ (x : TypedFunction). IsOfSource x.name) _ (λ (x : TypedFunction). IsIdentifier t x.name) (λ e p q. identifier t (whole_unit m) e.0.name named.0 p q.1) m.functions named.2 k.functions;
     }

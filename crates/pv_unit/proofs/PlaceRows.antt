@@ -3,7 +3,7 @@ use Rattle.std.proofs.Common.{◌≡◌, ℕ, zero, suc, ◌<◌, set, slice_ind
 use Rattle.std.specs.Prelude.{if◌then◌else◌}
 use Rattle.std.proofs.lemmas.List.{length-map, map_push}
 use Rattle.pv_unit.specs.declared.entities.Entity.{Entity as Kept}
-use Rattle.pv_unit.specs.Redeclarations.{Entity, entity, is_entity, marked, is_initialized}
+use Rattle.pv_unit.specs.Redeclarations.{Entity, entity, is_entity, entities_after, is_initialized}
 use Rattle.pv_unit.specs.Entering.{entity_of, no_entity}
 use Rattle.pv_unit.specs.Places.{ArePlaced, Keeps, defined_in, first_in, initialized_in, noted_in, or_other, with_more}
 use Rattle.pv_unit.specs.Definitions.{is_defined}
@@ -19,11 +19,11 @@ first_within f k (e ∷ es) = here (is_entity f k e) (first_in f k es) (first_wi
     here false None h = tt
     here false (Some p) h = omega (arith, h)
 
-pub noted_first : (f : Bool) (k : ℕ) (d i b : Bool) (es : List Entity) → noted_in (first_in f k es) d i b es ≡ marked f k d i b es
+pub noted_first : (f : Bool) (k : ℕ) (d i b : Bool) (es : List Entity) → noted_in (first_in f k es) d i b es ≡ entities_after f k d i b es
 noted_first f k d i b [] = refl
 noted_first f k d i b (e ∷ es) = here (is_entity f k e) (first_in f k es) (noted_first f k d i b es)
   where
-    here : (t : Bool) (o : Option ℕ) → noted_in o d i b es ≡ marked f k d i b es → noted_in (if t then Some 0 else option_map suc o) d i b (e ∷ es) ≡ (if t then with_more d i b e ∷ es else e ∷ marked f k d i b es)
+    here : (t : Bool) (o : Option ℕ) → noted_in o d i b es ≡ entities_after f k d i b es → noted_in (if t then Some 0 else option_map suc o) d i b (e ∷ es) ≡ (if t then with_more d i b e ∷ es else e ∷ entities_after f k d i b es)
     here true o h = refl
     here false None h = ap (λ zs. e ∷ zs) h
     here false (Some p) h = ap (λ zs. e ∷ zs) h
@@ -59,15 +59,15 @@ noted_is d i b (y ∷ ys) (suc p) x lt e = ap (λ zs. entity_of y ∷ zs) (noted
 
 -- ---- more is known of one
 
-pub first_marked : (f : Bool) (k : ℕ) (d i b : Bool) (g : Bool) (j : ℕ) (es : List Entity) → first_in g j (marked f k d i b es) ≡ first_in g j es
+pub first_marked : (f : Bool) (k : ℕ) (d i b : Bool) (g : Bool) (j : ℕ) (es : List Entity) → first_in g j (entities_after f k d i b es) ≡ first_in g j es
 first_marked f k d i b g j [] = refl
 first_marked f k d i b g j (e ∷ es) = here (is_entity f k e) (first_marked f k d i b g j es)
   where
-    here : (t : Bool) → first_in g j (marked f k d i b es) ≡ first_in g j es → first_in g j (if t then with_more d i b e ∷ es else e ∷ marked f k d i b es) ≡ first_in g j (e ∷ es)
+    here : (t : Bool) → first_in g j (entities_after f k d i b es) ≡ first_in g j es → first_in g j (if t then with_more d i b e ∷ es else e ∷ entities_after f k d i b es) ≡ first_in g j (e ∷ es)
     here true h = refl
     here false h = ap (λ o. if is_entity g j e then Some 0 else option_map suc o) h
 
-pub placed_marked : (f : Bool) (k : ℕ) (d i b : Bool) (g : Bool) (es : List Entity) (ps : List (ℕ × ℕ)) → ArePlaced g es ps → ArePlaced g (marked f k d i b es) ps
+pub placed_marked : (f : Bool) (k : ℕ) (d i b : Bool) (g : Bool) (es : List Entity) (ps : List (ℕ × ℕ)) → ArePlaced g es ps → ArePlaced g (entities_after f k d i b es) ps
 placed_marked f k d i b g es ps h = λ j. h j ∙ sym (first_marked f k d i b g j es)
 
 -- ---- one more

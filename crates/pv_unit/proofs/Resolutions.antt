@@ -8,7 +8,7 @@ use Rattle.std.proofs.lemmas.List.{drop_all, length-map, map_push, take_more}
 use Rattle.pv_typed.specs.Entries.{with_placed as with_one_placed}
 use Rattle.pv_typed.specs.Formed.{Grown}
 use Rattle.pv_typed.specs.Mains.{first_main, named_main}
-use Rattle.pv_typed.specs.Tables.{Stored, function_in, nodes, whole}
+use Rattle.pv_typed.specs.Tables.{Stored, function_in, nodes, whole_unit}
 use Rattle.pv_typed.specs.TypedUnits.{TypedFunction, WholeUnit, function_at}
 use Rattle.pv_typed.specs.UnitParts.{no_function}
 use Rattle.pv_typed.proofs.Adding.{grown_trans}
@@ -17,7 +17,7 @@ use Rattle.pv_check.specs.Raw.{used_of}
 use Rattle.pv_check.specs.State.{State, Used}
 use Rattle.pv_unit.specs.Redeclarations.{Entity}
 use Rattle.pv_unit.specs.Resolving.{placed_if}
-use Rattle.pv_unit.specs.Units.{is_unresolved, placed_from, points, statics_from, unresolved, uses, with_statics, with_placed}
+use Rattle.pv_unit.specs.Units.{is_unresolved, placed_from, points, statics_from, first_unresolved, uses, with_statics, with_placed}
 use Rattle.pv_unit.specs.UnitParts.{is_main_function, is_used, has_main_in, is_pointed}
 
 -- ---- what expressions name
@@ -61,19 +61,19 @@ taken true x y e = refl
 taken false x y e = cc
 
 -- the next one is defined, or not named
-pub resolved_next : (s : State) (es : List Entity) (i : ℕ) (d : Entity) → i < length es → is_unresolved s (get_or es i d) ≡ false → unresolved s (drop (i + 1) es) ≡ unresolved s (drop i es)
+pub resolved_next : (s : State) (es : List Entity) (i : ℕ) (d : Entity) → i < length es → is_unresolved s (get_or es i d) ≡ false → first_unresolved s (drop (i + 1) es) ≡ first_unresolved s (drop i es)
 resolved_next s es i d lt not_so =
     let e = get_or es i d in
     let step : i + 1 ≡ suc i = omega arith in
-    ap (λ j. unresolved s (drop j es)) step ∙ turned (is_unresolved s e) (Some e.name) (unresolved s (drop (suc i) es)) not_so ∙ ap (unresolved s) (sym (drop-cons es i d lt))
+    ap (λ j. first_unresolved s (drop j es)) step ∙ turned (is_unresolved s e) (Some e.name) (first_unresolved s (drop (suc i) es)) not_so ∙ ap (first_unresolved s) (sym (drop-cons es i d lt))
 
-pub unresolved_here : (s : State) (es : List Entity) (i : ℕ) (d : Entity) → i < length es → is_unresolved s (get_or es i d) ≡ true → Some (get_or es i d).name ≡ unresolved s (drop i es)
+pub unresolved_here : (s : State) (es : List Entity) (i : ℕ) (d : Entity) → i < length es → is_unresolved s (get_or es i d) ≡ true → Some (get_or es i d).name ≡ first_unresolved s (drop i es)
 unresolved_here s es i d lt is_so =
     let e = get_or es i d in
-    taken (is_unresolved s e) (Some e.name) (unresolved s (drop (suc i) es)) is_so ∙ ap (unresolved s) (sym (drop-cons es i d lt))
+    taken (is_unresolved s e) (Some e.name) (first_unresolved s (drop (suc i) es)) is_so ∙ ap (first_unresolved s) (sym (drop-cons es i d lt))
 
-pub none_unresolved : (s : State) (es : List Entity) (i : ℕ) → length es ≤ i → None ≡ unresolved s (drop i es)
-none_unresolved s es i end = sym (ap (unresolved s) (drop_all i es end))
+pub none_unresolved : (s : State) (es : List Entity) (i : ℕ) → length es ≤ i → None ≡ first_unresolved s (drop i es)
+none_unresolved s es i end = sym (ap (first_unresolved s) (drop_all i es end))
 
 pub main_next : (names : List (List ℕ)) (fs : List TypedFunction) (i : ℕ) (d : TypedFunction) → i < length fs → is_main_function names (get_or fs i d) ≡ false → has_main_in names (drop (i + 1) fs) ≡ has_main_in names (drop i fs)
 main_next names fs i d lt not_so =
@@ -112,9 +112,9 @@ some_function names (f ∷ fs) h = omega arith
 pub record Noting (m0 : Stored) (es : List Entity) (i : ℕ) (m : Stored) : Type 0 where
   pub grown : Grown m0 m
   pub known : m.known ≡ m0.known
-  pub objects : (whole m).objects ≡ (whole m0).objects
+  pub objects : (whole_unit m).objects ≡ (whole_unit m0).objects
   pub counted : length m.objects ≡ length m0.objects
-  pub left : with_statics (statics_from es i (drop i (whole m0).objects)) (whole m) ≡ with_statics (statics_from es 0 (whole m0).objects) (whole m0)
+  pub left : with_statics (statics_from es i (drop i (whole_unit m0).objects)) (whole_unit m) ≡ with_statics (statics_from es 0 (whole_unit m0).objects) (whole_unit m0)
 
 nil_right : {A : Type 0} (xs : List A) → xs ≡ xs ++ []
 nil_right [] = refl
@@ -126,9 +126,9 @@ nil_right (x ∷ xs) = ap (λ ys. x ∷ ys) (nil_right xs)
 pub record Placing (m0 : Stored) (used : List Named) (i : ℕ) (m : Stored) : Type 0 where
   pub grown : Grown m0 m
   pub known : m.known ≡ m0.known
-  pub functions : (whole m).functions ≡ (whole m0).functions
+  pub functions : (whole_unit m).functions ≡ (whole_unit m0).functions
   pub counted : length m.functions ≡ length m0.functions
-  pub left : with_placed (placed_from (map used_of used) i (drop i (whole m0).functions)) (whole m) ≡ with_placed (placed_from (map used_of used) 0 (whole m0).functions) (whole m0)
+  pub left : with_placed (placed_from (map used_of used) i (drop i (whole_unit m0).functions)) (whole_unit m) ≡ with_placed (placed_from (map used_of used) 0 (whole_unit m0).functions) (whole_unit m0)
 
 placed_functions : (b : Bool) (f : ℕ) (u : WholeUnit) → (placed_if b f u).functions ≡ u.functions
 placed_functions true f u = refl
@@ -140,15 +140,15 @@ placed_step true us i rest u = ap (λ (ps : List ℕ). record u { placed = ps })
 placed_step false us i rest u = refl
 
 -- one function more
-pub placing_next : (m0 m n : Stored) (used : List Named) (i : ℕ) → i < length (whole m0).functions → Placing m0 used i m → Grown m n → n.known ≡ m.known
-    → whole n ≡ placed_if (is_some (function_at (whole m) i).body && is_pointed i (map used_of used)) i (whole m) → Placing m0 used (i + 1) n
+pub placing_next : (m0 m n : Stored) (used : List Named) (i : ℕ) → i < length (whole_unit m0).functions → Placing m0 used i m → Grown m n → n.known ≡ m.known
+    → whole_unit n ≡ placed_if (is_some (function_at (whole_unit m) i).body && is_pointed i (map used_of used)) i (whole_unit m) → Placing m0 used (i + 1) n
 placing_next m0 m n used i lt p grown known is =
     let us = map used_of used in
-    let fs = (whole m0).functions in
+    let fs = (whole_unit m0).functions in
     let f : TypedFunction = get_or fs i no_function in
-    let here : Bool = is_some (function_at (whole m) i).body && is_pointed i us in
-    let functions : (whole n).functions ≡ fs = ap (λ (u : WholeUnit). u.functions) is ∙ placed_functions here i (whole m) ∙ p.functions in
-    let as_long : length (whole n).functions ≡ length fs = ap (λ (gs : List TypedFunction). length gs) functions in
+    let here : Bool = is_some (function_at (whole_unit m) i).body && is_pointed i us in
+    let functions : (whole_unit n).functions ≡ fs = ap (λ (u : WholeUnit). u.functions) is ∙ placed_functions here i (whole_unit m) ∙ p.functions in
+    let as_long : length (whole_unit n).functions ≡ length fs = ap (λ (gs : List TypedFunction). length gs) functions in
     let before = length-map m0.functions (function_in m0.known (nodes m0)) in
     let behind = length-map n.functions (function_in n.known (nodes n)) in
     let step : i + 1 ≡ suc i = omega arith in record {
@@ -158,10 +158,10 @@ placing_next m0 m n used i lt p grown known is =
       counted = omega (arith, as_long, before, behind);
       left =
           ap (λ (u : WholeUnit). with_placed (placed_from us (i + 1) (drop (i + 1) fs)) u) is
-          ∙ placed_step here us i (drop (i + 1) fs) (whole m)
-          ∙ ap (λ (gs : List TypedFunction). with_placed (if is_some (get_or gs i no_function).body && is_pointed i us then i ∷ placed_from us (i + 1) (drop (i + 1) fs) else placed_from us (i + 1) (drop (i + 1) fs)) (whole m)) p.functions
-          ∙ ap (λ (j : ℕ). with_placed (placed_from us i (f ∷ drop j fs)) (whole m)) step
-          ∙ ap (λ (gs : List TypedFunction). with_placed (placed_from us i gs) (whole m)) (sym (drop-cons fs i no_function lt))
+          ∙ placed_step here us i (drop (i + 1) fs) (whole_unit m)
+          ∙ ap (λ (gs : List TypedFunction). with_placed (if is_some (get_or gs i no_function).body && is_pointed i us then i ∷ placed_from us (i + 1) (drop (i + 1) fs) else placed_from us (i + 1) (drop (i + 1) fs)) (whole_unit m)) p.functions
+          ∙ ap (λ (j : ℕ). with_placed (placed_from us i (f ∷ drop j fs)) (whole_unit m)) step
+          ∙ ap (λ (gs : List TypedFunction). with_placed (placed_from us i gs) (whole_unit m)) (sym (drop-cons fs i no_function lt))
           ∙ p.left;
     }
 

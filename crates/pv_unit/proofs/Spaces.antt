@@ -7,7 +7,7 @@ use Rattle.pv_types.specs.declared.terms.TypeId.{TypeId}
 use Rattle.pv_types.specs.Known.{Known, tree, env}
 use Rattle.pv_types.specs.Ty.{Ty, VoidTy, IntTy, PointerTo, ArrayOf, StructTag, UnionTag, FunctionTy, ConstOf}
 use Rattle.pv_types.specs.Layouts.{Part, Entry, Completed, Layout, layout_in, layouts_of, is_complete_in}
-use Rattle.pv_types.specs.Sorts.{bare}
+use Rattle.pv_types.specs.Sorts.{bare_type}
 use Rattle.pv_check.specs.Growing.{AreSized}
 use Rattle.pv_check.proofs.Growth.{sized_small}
 use Rattle.pv_unit.specs.Initializers.{filled_type}
@@ -39,7 +39,7 @@ was_some true x y e = refl
 was_some false x y e = cc
 
 -- string literals fill it
-pub space_text : (e : List Entry) (t : Ty) (n : ℕ) (r : Ty) → is_text t ≡ true → Some r ≡ filled_type (bare t) n → HasSpace e t n
+pub space_text : (e : List Entry) (t : Ty) (n : ℕ) (r : Ty) → is_text t ≡ true → Some r ≡ filled_type (bare_type t) n → HasSpace e t n
 space_text e (ArrayOf t None) n r text h = inr (small_text e t n text (at_most n (2 ^ 32) (was_some _ _ r h)))
 space_text e (ArrayOf t (Some k)) n r text h = tt
 space_text e (ConstOf t) n r text h = tt

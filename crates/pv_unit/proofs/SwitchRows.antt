@@ -17,13 +17,13 @@ use Rattle.pv_unit.specs.declared.labels.Label.{Label}
 use Rattle.pv_unit.specs.declared.labels.Labels.{Labels}
 use Rattle.pv_unit.specs.declared.plain.Place.{Place}
 use Rattle.pv_unit.specs.Blocks.{Reached, block_declaration}
-use Rattle.pv_unit.specs.Statements.{Around, leaving, reached, block_of, typed_labels, under}
+use Rattle.pv_unit.specs.Statements.{Around, leaving, reached_declarations, block_of, typed_labels, under}
 use Rattle.pv_unit.specs.StatementParts.{in_switch}
 use Rattle.pv_unit.specs.Statements as statements
 use Rattle.pv_unit.specs.TypedStatements.{Body, typed_statement, switch_items, switch_item}
 use Rattle.pv_unit.specs.Made.{with_reached, body_reached, body_with, body_made}
-use Rattle.pv_unit.specs.Scoped.{Marked, marked, unmarked, under_labels, labelled_statement, with_marked, switch_body}
-use Rattle.pv_unit.specs.Stated.{around_in, stated, statements_in, items_if, AreStatements, Moves}
+use Rattle.pv_unit.specs.Scoped.{Marked, marked_statement, unmarked_statement, under_labels, labelled_statement, with_marked, switch_body}
+use Rattle.pv_unit.specs.Stated.{around_in, statement_after, statements_in, items_if, AreStatements, Moves}
 use Rattle.pv_tree.specs.Places.{is_switch_block}
 use Rattle.pv_unit.specs.Switching.{labels_of, labels_if, behind_labels, HasKeys, body_in, body_if, marked_if, is_labelled}
 use Rattle.pv_unit.proofs.ItemRows.{item_declaration, item_statement}
@@ -32,7 +32,7 @@ use Rattle.pv_unit.proofs.Moving.{moves_same, moves_on, around_same, statements_
 
 -- ---- a statement with labels, or without
 
-plain_same : (x : Body) (o : Option (After TypedStatement)) → and_then o (body_with x x.labels []) ≡ and_then (and_then o (unmarked x.labels)) (with_marked x)
+plain_same : (x : Body) (o : Option (After TypedStatement)) → and_then o (body_with x x.labels []) ≡ and_then (and_then o (unmarked_statement x.labels)) (with_marked x)
 plain_same x None = refl
 plain_same x (Some y) = refl
 
@@ -41,7 +41,7 @@ labels_same : (w : Around) (b : StatementTree) (x : Body) (o : Option (After (Li
 labels_same w b x None = refl
 labels_same w b x (Some l) = under_same (typed_statement w b l.state)
   where
-    under_same : (o : Option (After TypedStatement)) → and_then o (body_with x (x.labels ++ l.value) l.value) ≡ and_then (and_then o (marked x.labels l.value)) (with_marked x)
+    under_same : (o : Option (After TypedStatement)) → and_then o (body_with x (x.labels ++ l.value) l.value) ≡ and_then (and_then o (marked_statement x.labels l.value)) (with_marked x)
     under_same None = refl
     under_same (Some y) = refl
 
@@ -64,7 +64,7 @@ statement_is w k (Continue line) x = sym (plain_same x.value (typed_statement w 
 statement_is w k (Return line a) x = sym (plain_same x.value (typed_statement w (Return line a) x.state))
 
 -- a statement that has no labels
-pub unlabelled : (w : Around) (k : IntKind) (b : StatementTree) (seen : List statements.Label) (s : State) → is_labelled b ≡ false → and_then (typed_statement w b s) (unmarked seen) ≡ labelled_statement w k b seen s
+pub unlabelled : (w : Around) (k : IntKind) (b : StatementTree) (seen : List statements.Label) (s : State) → is_labelled b ≡ false → and_then (typed_statement w b s) (unmarked_statement seen) ≡ labelled_statement w k b seen s
 unlabelled w k (Labelled line ls b) seen s e = cc
 unlabelled w k (Block line items) seen s e = refl
 unlabelled w k (ExpressionStatement line a) seen s e = refl
@@ -84,11 +84,11 @@ unlabelled w k (Return line a) seen s e = refl
 
 abbrev stated_or : List (List ℕ) → Raw → Stored → Option NodeId → Option (After TypedStatement)
 stated_or texts s m None = None
-stated_or texts s m (Some n) = Some (stated texts s m n)
+stated_or texts s m (Some n) = Some (statement_after texts s m n)
 
-pub unmarked_is : (texts : List (List ℕ)) (s : Raw) (m : Stored) (ls : List Label) (r : Option NodeId) (o : Option (After TypedStatement)) → stated_or texts s m r ≡ o → marked_if texts s m ls r ≡ and_then o (unmarked (labels_of ls))
-unmarked_is texts s m ls None o e = step_none o (unmarked (labels_of ls)) e
-unmarked_is texts s m ls (Some n) o e = step_on o (stated texts s m n) (unmarked (labels_of ls)) _ e refl
+pub unmarked_is : (texts : List (List ℕ)) (s : Raw) (m : Stored) (ls : List Label) (r : Option NodeId) (o : Option (After TypedStatement)) → stated_or texts s m r ≡ o → marked_if texts s m ls r ≡ and_then o (unmarked_statement (labels_of ls))
+unmarked_is texts s m ls None o e = step_none o (unmarked_statement (labels_of ls)) e
+unmarked_is texts s m ls (Some n) o e = step_on o (statement_after texts s m n) (unmarked_statement (labels_of ls)) _ e refl
 
 -- ---- labels, and the statement under them
 
@@ -117,7 +117,7 @@ own_is (b ∷ bs) (a ∷ al) own e = own_is bs al own (ap rest_of e)
 pub under_done : (texts : List (List ℕ)) (w : Place) (b : StatementTree) (m0 m1 m2 m3 : Stored) (s0 s1 s2 : Raw) (before all : List Label) (o : Option (After (List statements.Label))) (made marked_node : NodeId)
     → w.result.0 < length m0.known.terms → Goes m0 m1
     → labels_if texts s1 m1 all true ≡ behind_labels (labels_of before) o
-    → Some (stated texts s2 m2 made) ≡ typed_statement (around_in m1.known w) b (state_of texts false s1 m1)
+    → Some (statement_after texts s2 m2 made) ≡ typed_statement (around_in m1.known w) b (state_of texts false s1 m1)
     → statement_at m3 marked_node ≡ under (labels_of (drop (length before) all)) (statement_at m2 made) → state_of texts false s2 m3 ≡ state_of texts false s2 m2
     → marked_if texts s2 m3 all (Some marked_node) ≡ and_then o (under_labels (around_in m0.known w) b (labels_of before))
 under_done texts w b m0 m1 m2 m3 s0 s1 s2 before all o made marked_node known g first second tree same =
@@ -126,7 +126,7 @@ under_done texts w b m0 m1 m2 m3 s0 s1 s2 before all o made marked_node known g 
     let own : After (List statements.Label) = record { value = h.0; state = z } in
     let is : statement_at m3 marked_node ≡ under h.0 (statement_at m2 made) = tree ∙ ap (λ ls. under ls (statement_at m2 made)) (own_is before all h.0 h.1.1) in
     step_on o own (under_labels (around_in m0.known w) b (labels_of before)) _ (sym h.1.0)
-    (step_on (typed_statement (around_in m0.known w) b z) (stated texts s2 m2 made) (marked (labels_of before) h.0) _ (second ∙ ap (λ x. typed_statement x b z) (around_same m0 m1 w g known))
+    (step_on (typed_statement (around_in m0.known w) b z) (statement_after texts s2 m2 made) (marked_statement (labels_of before) h.0) _ (second ∙ ap (λ x. typed_statement x b z) (around_same m0 m1 w g known))
     (ap (λ (ls : List statements.Label). Some (record { value = record { labels = ls; statement = statement_at m3 marked_node }; state = state_of texts false s2 m3 })) (sym h.1.1)
     ∙ ap (λ (x : TypedStatement). Some (record { value = record { labels = labels_of before ++ h.0; statement = x }; state = state_of texts false s2 m3 })) is
     ∙ ap (λ (y : State). Some (record { value = record { labels = labels_of before ++ h.0; statement = under h.0 (statement_at m2 made) }; state = y })) same))
@@ -139,7 +139,7 @@ under_none texts w b m0 m1 s1 before all o known g first held =
     let z = state_of texts false s1 m1 in
     let h = found (labels_of before) (labels_of all) z o first in
     step_on o (record { value = h.0; state = z }) (under_labels (around_in m0.known w) b (labels_of before)) None (sym h.1.0)
-    (step_none (typed_statement (around_in m0.known w) b z) (marked (labels_of before) h.0) (held ∙ ap (λ x. typed_statement x b z) (around_same m0 m1 w g known)))
+    (step_none (typed_statement (around_in m0.known w) b z) (marked_statement (labels_of before) h.0) (held ∙ ap (λ x. typed_statement x b z) (around_same m0 m1 w g known)))
 
 -- ---- one item
 
@@ -245,6 +245,6 @@ no_block w k (Return line a) s e = refl
 
 pub body_done : (texts : List (List ℕ)) (line : ℕ) (items : Option (After Body)) (m2 m3 : Stored) (s2 : Raw) (ns : List NodeId) (ls : List Label) (made : NodeId)
     → Some (body_in texts s2 m2 ns ls) ≡ items → statement_at m3 made ≡ block_of line (statements_in m2 ns) → state_of texts false s2 m3 ≡ state_of texts false s2 m2
-    → Some (stated texts s2 m3 made) ≡ and_then items (body_made line)
+    → Some (statement_after texts s2 m3 made) ≡ and_then items (body_made line)
 body_done texts line items m2 m3 s2 ns ls made first tree same =
     step_on items (body_in texts s2 m2 ns ls) (body_made line) _ first (made_is texts s2 m2 m3 made (block_of line (statements_in m2 ns)) tree same)

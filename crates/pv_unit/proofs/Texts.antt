@@ -7,7 +7,7 @@ use Rattle.pv_types.specs.declared.terms.TypeId.{TypeId}
 use Rattle.pv_types.specs.Ty.{Ty, VoidTy, IntTy, PointerTo, ArrayOf, StructTag, UnionTag, FunctionTy, ConstOf}
 use Rattle.pv_types.specs.Layouts.{Entry, layout_in}
 use Rattle.pv_types.specs.Known.{tree}
-use Rattle.pv_types.specs.Sorts.{bare}
+use Rattle.pv_types.specs.Sorts.{bare_type}
 use Rattle.pv_layout.proofs.Ahead.{bare_size}
 use Rattle.pv_typed.specs.declared.entries.Init.{Init}
 use Rattle.pv_typed.specs.declared.entries.InitValue.TheVariants as value
@@ -55,10 +55,10 @@ layer_size env (FunctionTy t ts v) e = cc
 layer_size env (ConstOf t) e = cc
 
 -- a character takes one byte
-pub character_size : (env : List Entry) (t : Ty) → character_layer (bare t) ≡ true → (layout_in env t).size ≡ 1
-character_size env t e = sym (bare_size env t) ∙ layer_size env (bare t) e
+pub character_size : (env : List Entry) (t : Ty) → character_layer (bare_type t) ≡ true → (layout_in env t).size ≡ 1
+character_size env t e = sym (bare_size env t) ∙ layer_size env (bare_type t) e
 
-pub small_text : (env : List Entry) (t : Ty) (n : ℕ) → character_layer (bare t) ≡ true → n ≤ 2 ^ 32 → n * (layout_in env t).size ≤ 2 ^ 32
+pub small_text : (env : List Entry) (t : Ty) (n : ℕ) → character_layer (bare_type t) ≡ true → n ≤ 2 ^ 32 → n * (layout_in env t).size ≤ 2 ^ 32
 small_text env t n e lt = let one = character_size env t e in rw one (omega (arith, lt))
 
 abbrev pub text_store : Subobject → TypeId → ℕ → ℕ → Init
@@ -66,13 +66,13 @@ text_store part t line l = record { offset = part.offset; t = t; line = line; wh
 
 -- there is no room for them
 pub filled_none : (texts : List (List ℕ)) (m0 m1 : Stored) (s : Raw) (part : Subobject) (line first more count : ℕ) (before : List Store) → Goes m0 m1 → part.t.0 < length m0.known.terms
-    → count ≡ length (bytes_of_text texts first more) → None ≡ filled_type (bare (tree m1.known part.t.0)) count
+    → count ≡ length (bytes_of_text texts first more) → None ≡ filled_type (bare_type (tree m1.known part.t.0)) count
     → None ≡ option_map (behind before) (filled_with (part_of m0.known part) line (values.string line first more (state_of texts false s m0)))
 filled_none texts m0 m1 s part line first more count before g known size none =
     let st0 = state_of texts false s m0 in
     let p = part_of m0.known part in
     let x = filling_text line (bytes_of_text texts first more) st0 in
-    let own : None ≡ filled_type (bare p.t) (length x.value.characters) = none ∙ ap (λ (u : Ty). filled_type (bare u) count) (g.grown.types part.t.0 known) ∙ ap (filled_type (bare p.t)) size in
+    let own : None ≡ filled_type (bare_type p.t) (length x.value.characters) = none ∙ ap (λ (u : Ty). filled_type (bare_type u) count) (g.grown.types part.t.0 known) ∙ ap (filled_type (bare_type p.t)) size in
     ap (option_map (behind before)) (ap (option_map (characters p line x)) own ∙ ap (filled_with p line) (sym (values_string line first more st0)))
 
 pub record Filled (texts : List (List ℕ)) (m0 m2 : Stored) (s : Raw) (part : Subobject) (line first more : ℕ) (before out : List Init) (count : ℕ) : Type 0 where
@@ -83,7 +83,7 @@ pub filled_of : (texts : List (List ℕ)) (m0 m1 m2 : Stored) (s : Raw) (part : 
     → IsOpen m0 s → Goes m0 m1 → Kept m1 m2 → AreStores m0 before → part.t.0 < length m0.known.terms → t.0 < length m2.known.terms
     → l ≡ length m0.literals → l < length m1.literals → count ≡ length (bytes_of_text texts first more)
     → state_of texts false s m1 ≡ (filling_text line (bytes_of_text texts first more) (state_of texts false s m0)).state
-    → type_if m2.known (Some t) ≡ filled_type (bare (tree m1.known part.t.0)) count → out ≡ before ++ (text_store part t line l ∷ [])
+    → type_if m2.known (Some t) ≡ filled_type (bare_type (tree m1.known part.t.0)) count → out ≡ before ++ (text_store part t line l ∷ [])
     → Filled texts m0 m2 s part line first more before out count
 filled_of texts m0 m1 m2 s part t line first more l count before out ready g k are known there number literal size state typed pushed_is =
     let h = goes_kept m1 m2 k in
@@ -93,8 +93,8 @@ filled_of texts m0 m1 m2 s part t line first more l count before out ready g k a
     let x = filling_text line (bytes_of_text texts first more) st0 in
     let opened = open_goes m0 m1 s ready g in
     let same : state_of texts false s m2 ≡ x.state = state_stays texts false m1 m2 s opened h k.whole ∙ state in
-    let own : Some (tree m2.known t.0) ≡ filled_type (bare p.t) (length x.value.characters) =
-    typed ∙ ap (λ (u : Ty). filled_type (bare u) count) (g.grown.types part.t.0 known) ∙ ap (filled_type (bare p.t)) size in
+    let own : Some (tree m2.known t.0) ≡ filled_type (bare_type p.t) (length x.value.characters) =
+    typed ∙ ap (λ (u : Ty). filled_type (bare_type u) count) (g.grown.types part.t.0 known) ∙ ap (filled_type (bare_type p.t)) size in
     let done = ap (option_map (characters p line x)) own ∙ ap (filled_with p line) (sym (values_string line first more st0)) in
     let literals : length m1.literals ≤ length m2.literals = h.grown.literals in
     let q = pushed m0 m2 before (text_store part t line l) goes are (there, omega (arith, literals, literal)) in

@@ -14,7 +14,7 @@ use Rattle.pv_check.specs.Raw.{Raw}
 use Rattle.pv_types.specs.Sorts.{kind_of, is_scalar, is_void}
 use Rattle.pv_check.specs.State.{State, After, give}
 use Rattle.pv_typed.specs.Constants.{and_then}
-use Rattle.pv_check.specs.Values.{assigned, promoted_value}
+use Rattle.pv_check.specs.Values.{as_if_assigned, promoted_value}
 use Rattle.pv_unit.specs.declared.rows.Controlling.{Controlling}
 use Rattle.pv_unit.specs.StatementParts.{if_scalar, value_returned, switched_by}
 use Rattle.pv_unit.specs.Switching.{switched_if}
@@ -44,5 +44,5 @@ promoted_done texts s a b found value k is kind same = by k (kind ∙ ap (λ e. 
 
 -- ---- `return`
 
-pub returned_not : (t : Ty) (line : ℕ) (x : After TypedTree) (r : Option (After TypedStatement)) → is_void t ≡ false → r ≡ and_then (assigned t x.value) (λ e. give (Some (Return line (Some e))) x.state) → r ≡ value_returned t line x
-returned_not t line x r h e = e ∙ sym (ap (λ b. if b then None else and_then (assigned t x.value) (λ e. give (Some (Return line (Some e))) x.state)) h)
+pub returned_not : (t : Ty) (line : ℕ) (x : After TypedTree) (r : Option (After TypedStatement)) → is_void t ≡ false → r ≡ and_then (as_if_assigned t x.value) (λ e. give (Some (Return line (Some e))) x.state) → r ≡ value_returned t line x
+returned_not t line x r h e = e ∙ sym (ap (λ b. if b then None else and_then (as_if_assigned t x.value) (λ e. give (Some (Return line (Some e))) x.state)) h)

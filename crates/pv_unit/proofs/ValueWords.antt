@@ -7,14 +7,14 @@ use Rattle.pv_check.specs.StringLiterals.{bytes_of_text}
 use Rattle.pv_check.specs.Rows.{operand}
 use Rattle.pv_check.specs.State.{State}
 use Rattle.pv_check.specs.Typing.{types}
-use Rattle.pv_check.specs.Values.{assigned}
-use Rattle.pv_unit.specs.ValueRules.{filling_text, lifted, values}
+use Rattle.pv_check.specs.Values.{as_if_assigned}
+use Rattle.pv_unit.specs.ValueRules.{filling_text, to_initializers, values}
 
-pub values_operand : (a : ExpressionTree) (s : State) → values.operand a s ≡ lifted (operand (types a s))
+pub values_operand : (a : ExpressionTree) (s : State) → values.operand a s ≡ to_initializers (operand (types a s))
 unfolding values
 values_operand a s = refl
 
-pub values_assigned : (s : State) (t : Ty) (e : TypedTree) → values.assigned s t e ≡ assigned t e
+pub values_assigned : (s : State) (t : Ty) (e : TypedTree) → values.assigned s t e ≡ as_if_assigned t e
 unfolding values
 values_assigned s t e = refl
 

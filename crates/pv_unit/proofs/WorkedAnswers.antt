@@ -10,7 +10,7 @@ use Rattle.pv_check.specs.Scopes.{no_scope}
 use Rattle.pv_unit.specs.Redeclarations.{UnitState}
 use Rattle.pv_unit.specs.Definitions.{may_end}
 use Rattle.pv_unit.specs.Functions.{typed_external}
-use Rattle.pv_unit.specs.Units.{unresolved, has_main, finished}
+use Rattle.pv_unit.specs.Units.{first_unresolved, has_main, finished_unit}
 
 -- what comes of a unit (5.1.1.3p1), and of its typing what the rows look at
 pub data Answer : Type 0 where
@@ -95,7 +95,7 @@ bodies (f ∷ fs) = body_of f.body (bodies fs)
 
 -- what the rows look at of a typed unit
 abbrev pub accepted : Look → UnitState → Answer
-accepted look u = Accepted (objects look u.state.unit u.state.unit.objects) (named (finished u) (finished u).statics) (literals u.state.unit u.state.unit.instances) (bodies u.state.unit.functions)
+accepted look u = Accepted (objects look u.state.unit u.state.unit.objects) (named (finished_unit u) (finished_unit u).statics) (literals u.state.unit u.state.unit.instances) (bodies u.state.unit.functions)
 
 -- by the first name without a definition (6.9p5)
 abbrev pub resolved : Look → UnitState → Option ℕ → Answer
@@ -105,7 +105,7 @@ resolved look u None = if has_main u.state.unit then accepted look u else Mainle
 -- behind the last declaration (6.9.2p2)
 abbrev pub ended : Look → ℕ → Option UnitState → Answer
 ended look i None = Refused i
-ended look i (Some u) = if may_end u then resolved look u (unresolved u.state u.entities) else Refused i
+ended look i (Some u) = if may_end u then resolved look u (first_unresolved u.state u.entities) else Refused i
 
 -- declaration by declaration (6.9p1), of which one has the number i
 abbrev pub judged_from : Look → ℕ → DeclarationTree → List DeclarationTree → Option UnitState → Answer

@@ -9,7 +9,7 @@ use Rattle.pv_types.specs.Compatible.{are_compatible}
 use Rattle.pv_check.specs.Words.{type_of_words}
 use Rattle.pv_typed.specs.TypedUnits.{TypedObject}
 use Rattle.pv_check.specs.State.{State, Scope, env}
-use Rattle.pv_check.specs.Scopes.{no_scope, left}
+use Rattle.pv_check.specs.Scopes.{no_scope, behind_scope}
 use Rattle.pv_typed.specs.Constants.{and_then}
 use Rattle.pv_library.specs.LibraryNames.{library_named}
 use Rattle.pv_unit.specs.Redeclarations.{UnitState}
@@ -33,7 +33,7 @@ inside x s = record s { scopes = s.scopes ++ (x ∷ []) }
 
 abbrev external : DeclarationTree → UnitState → Option UnitState
 external (Function line specs d (Block at ds)) u =
-    and_then (head specs d u) (λ h. and_then (items ds (inside h.0.signature.scope h.1.state)) (λ s. Some (record h.1 { state = left s })))
+    and_then (head specs d u) (λ h. and_then (items ds (inside h.0.signature.scope h.1.state)) (λ s. Some (record h.1 { state = behind_scope s })))
 external d u = file_declaration d u
 
 abbrev extents : List Entry → List TypedObject → List (Option (ℕ × ℕ))

@@ -16,7 +16,7 @@ use Rattle.pv_library.specs.LibraryNames.{library_named}
 use Rattle.pv_unit.specs.Redeclarations.{UnitState}
 use Rattle.pv_unit.specs.Initializers.{initialized_object}
 use Rattle.pv_unit.specs.ValueRules.{values}
-use Rattle.pv_unit.specs.Units.{typed_first, unresolved, finished}
+use Rattle.pv_unit.specs.Units.{typed_first, first_unresolved, finished_unit}
 use Rattle.pv_unit.proofs.WorkedAnswers.{nothing}
 
 -- the names of functions, by their numbers among the tokens
@@ -29,11 +29,11 @@ behind names ds = typed_first ds (nothing names [])
 
 -- the names of the functions that the unit points to
 abbrev pointed : List (List ℕ) → List DeclarationTree → Option (List ℕ)
-pointed names ds = option_map (λ (u : UnitState). names_of u.state.unit (finished u).placed) (behind names ds)
+pointed names ds = option_map (λ (u : UnitState). names_of u.state.unit (finished_unit u).placed) (behind names ds)
 
 -- the first name that nothing defines
 abbrev undefined : List (List ℕ) → List DeclarationTree → Option ℕ
-undefined names ds = and_then (behind names ds) (λ u. unresolved u.state u.entities)
+undefined names ds = and_then (behind names ds) (λ u. first_unresolved u.state u.entities)
 
 -- the names of the tokens of a unit, its external declarations, and an answer
 abbrev Row : Type 0 → Type 0

@@ -8,14 +8,14 @@ use Rattle.pv_tree.specs.Syntax.{DeclarationTree, Declaration, InitDeclarator, D
 use Rattle.pv_typed.specs.TypedUnits.{object_at}
 use Rattle.pv_typed.specs.TypedTree.{is_function}
 use Rattle.pv_check.specs.State.{State, After, ◌>>=◌, give, env}
-use Rattle.pv_check.specs.Scopes.{innermost, find}
+use Rattle.pv_check.specs.Scopes.{innermost_scope, find}
 use Rattle.pv_check.specs.declared.specifiers.Storage.{Storage}
 use Rattle.pv_check.specs.declared.specifiers.Storage.TheVariants as storage
 use Rattle.pv_check.specs.Tags.{tag_alone}
 use Rattle.pv_check.specs.Derivations.{declared_name}
 use Rattle.pv_unit.specs.Redeclarations.{new_object}
 use Rattle.pv_unit.specs.Declarations.{specified_by, only_tag, tags_alone, type_declared}
-use Rattle.pv_unit.specs.ValueRules.{initialized, with_given}
+use Rattle.pv_unit.specs.ValueRules.{typed_initializer, with_given}
 
 -- 6.2.4p5, p6: an automatic object that a declaration reaches, and the line of its name
 pub record Reached : Type 0 where
@@ -32,13 +32,13 @@ block_storage _ = None
 abbrev pub with_initializer : Bool → ℕ → OptionalTree → State → Option State
 with_initializer lasting o Absent s = if is_complete_in (env s) (object_at s.unit o).t then Some s else None
 with_initializer lasting o (Present (OfInitializer i)) s =
-    initialized lasting (object_at s.unit o).t i s >>= λ f. if is_complete_in (env f.state) f.value.t then Some (with_given o f.value f.state) else None
+    typed_initializer lasting (object_at s.unit o).t i s >>= λ f. if is_complete_in (env f.state) f.value.t then Some (with_given o f.value f.state) else None
 with_initializer lasting o _ s = None
 
 -- 6.7p3: the name is new in the block; 6.2.1p7: it begins behind its declarator
 abbrev pub block_object : Bool → Ty → ℕ × ℕ → OptionalTree → State → Option State
 block_object lasting t n i s =
-    if is_some (find (innermost s.scopes).names n.0) then None
+    if is_some (find (innermost_scope s.scopes).names n.0) then None
     else with_initializer lasting (length s.unit.objects) i (new_object n.0 n.1 t lasting s)
 
 -- 6.7.9: there is an initializer
@@ -47,9 +47,9 @@ is_present Absent = false
 is_present (Present t) = true
 
 -- 6.2.4p3: a static object is made before the program starts
-abbrev pub reached : Bool → ℕ → ℕ × ℕ → List Reached
-reached true o n = []
-reached false o n = record { object = o; line = n.1 } ∷ []
+abbrev pub reached_object : Bool → ℕ → ℕ × ℕ → List Reached
+reached_object true o n = []
+reached_object false o n = record { object = o; line = n.1 } ∷ []
 
 -- 6.7p1: one declarator of a block, which declares no function (our choice)
 abbrev pub block_declarator : Bool → Ty → DeclaratorTree → OptionalTree → After (List Reached) → Option (After (List Reached))
@@ -57,7 +57,7 @@ block_declarator lasting t d i r = do
   n ← declared_name d
   a ← type_declared (is_present i) t d r.state
   if is_function a.value.t then None
-      else block_object lasting a.value.t n i a.state >>= give (Some (r.value ++ reached lasting (length a.state.unit.objects) n))
+      else block_object lasting a.value.t n i a.state >>= give (Some (r.value ++ reached_object lasting (length a.state.unit.objects) n))
 
 -- 6.7p1: one init-declarator of a block
 abbrev pub block_init_declarator : Bool → Ty → Tree → After (List Reached) → Option (After (List Reached))

@@ -13,7 +13,7 @@ use Rattle.pv_check.specs.declared.parameters.Signature.{Signature}
 use Rattle.pv_check.specs.Declarators.{signature_shown}
 use Rattle.pv_check.specs.Raw.{Raw}
 use Rattle.pv_check.specs.State.{After}
-use Rattle.pv_check.specs.Scopes.{left}
+use Rattle.pv_check.specs.Scopes.{behind_scope}
 use Rattle.pv_unit.specs.declared.entities.Outer.{Outer}
 use Rattle.pv_unit.specs.declared.heads.Defined.{Defined}
 use Rattle.pv_unit.specs.declared.functions.FunctionParts.{FunctionParts}
@@ -35,7 +35,7 @@ IsBodyIf f n (Some l) = (statement_at f n ≡ Block (tree_line (tree_at f n)) (t
 
 -- the items (6.8.2p1), behind the scope in which they stand (6.2.1p4)
 abbrev pub left_items : After (List TypedStatement) → Option (After (List TypedStatement))
-left_items x = Some (record { value = x.value; state = left x.state })
+left_items x = Some (record { value = x.value; state = behind_scope x.state })
 
 -- a function definition (6.9.1p1)
 abbrev pub is_definition : DeclarationTree → Bool

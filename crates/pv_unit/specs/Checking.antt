@@ -6,7 +6,7 @@ use Rattle.pv_tree.specs.Tables.{Tables, declaration_at}
 use Rattle.pv_unit.specs.declared.checking.CheckError.{CheckError}
 use Rattle.pv_unit.specs.declared.checking.CheckError.TheVariants as error
 use Rattle.pv_unit.specs.Redeclarations.{UnitState}
-use Rattle.pv_unit.specs.Units.{Breaks, unresolved, has_main, Constraint, Unresolved, NoMain, UnitComes}
+use Rattle.pv_unit.specs.Units.{Breaks, first_unresolved, has_main, Constraint, Unresolved, NoMain, UnitComes}
 
 -- 6.9p1: the external declarations of a unit's tables, in their order
 abbrev pub externals_in : Tables → List DeclarationTree
@@ -34,11 +34,11 @@ IsStop ds u _ = ⊥
 
 -- nothing is left without a definition (6.9p5), and there is a `main` (5.1.2.2.1p1)
 abbrev pub IsResolved : UnitState → Type 0
-IsResolved u = (unresolved u.state u.entities ≡ None) × (has_main u.state.unit ≡ true)
+IsResolved u = (first_unresolved u.state u.entities ≡ None) × (has_main u.state.unit ≡ true)
 
 -- what is left without a definition (6.9p5), or that there is no `main` (5.1.2.2.1p1)
 abbrev pub IsLack : UnitState → CheckError → Type 0
-IsLack u (error.Unresolved n) = unresolved u.state u.entities ≡ Some n
-IsLack u error.NoMain = (unresolved u.state u.entities ≡ None) × (has_main u.state.unit ≡ false)
+IsLack u (error.Unresolved n) = first_unresolved u.state u.entities ≡ Some n
+IsLack u error.NoMain = (first_unresolved u.state u.entities ≡ None) × (has_main u.state.unit ≡ false)
 IsLack u error.NoMemory = Unit {0}
 IsLack u _ = ⊥

@@ -7,20 +7,20 @@ use Rattle.pv_tree.specs.Syntax.{DeclarationTree, Declaration, InitDeclarator, D
 use Rattle.pv_typed.specs.TypedUnits.{object_at}
 use Rattle.pv_typed.specs.TypedTree.{is_function}
 use Rattle.pv_check.specs.State.{State, After, ◌>>=◌, Scope, Meaning, TypedefOf, give, env}
-use Rattle.pv_check.specs.Scopes.{innermost, find, bind}
+use Rattle.pv_check.specs.Scopes.{innermost_scope, find, bind}
 use Rattle.pv_typed.specs.Constants.{and_then}
 use Rattle.pv_check.specs.declared.specifiers.Storage.{Storage}
 use Rattle.pv_check.specs.declared.specifiers.Storage.TheVariants as storage
-use Rattle.pv_check.specs.Specifiers.{Specified, specified}
+use Rattle.pv_check.specs.Specifiers.{Specified, specification_of}
 use Rattle.pv_check.specs.Tags.{tag_alone}
 use Rattle.pv_typed.specs.Mains.{named_main}
-use Rattle.pv_check.specs.Derivations.{Derivation, ByArray, declared_name, derived}
+use Rattle.pv_check.specs.Derivations.{Derivation, ByArray, declared_name, derived_type}
 use Rattle.pv_check.specs.Typing.{specifiers, steps}
 use Rattle.pv_types.specs.Compatible.{are_compatible}
 use Rattle.pv_unit.specs.MainType.{main_type}
 use Rattle.pv_types.specs.SameTypes.{same_type}
-use Rattle.pv_unit.specs.Redeclarations.{UnitState, unit_name, marked, is_initialized, object_declared, function_declared}
-use Rattle.pv_unit.specs.ValueRules.{initialized, with_given}
+use Rattle.pv_unit.specs.Redeclarations.{UnitState, unit_name, entities_after, is_initialized, object_declared, function_declared}
+use Rattle.pv_unit.specs.ValueRules.{typed_initializer, with_given}
 use Rattle.std.specs.List.{list_any}
 
 -- ---- without declarators
@@ -47,12 +47,12 @@ only_tag _ = None
 
 -- 6.7p2: specifiers without declarators declare a tag or enumerators, or complete a tag
 abbrev pub tags_alone : Trees → State → After Specified → Option (After Specified)
-tags_alone specs s a = if nat_lt (bound_in (innermost s.scopes)) (bound_in (innermost a.state.scopes)) || has_list specs then Some a else None
+tags_alone specs s a = if nat_lt (bound_in (innermost_scope s.scopes)) (bound_in (innermost_scope a.state.scopes)) || has_list specs then Some a else None
 
 -- 6.7p1: what specifiers say
 -- worked: type_words, storage_classes, qualified_types, members, enumerations, enumerator_values (proofs/WorkedDeclarations)
 abbrev pub specified_by : Trees → State → Option (After Specified)
-specified_by specs s = do a ← specifiers specs s; give (specified a.value) a.state
+specified_by specs s = do a ← specifiers specs s; give (specification_of a.value) a.state
 
 -- ---- one declarator
 
@@ -71,7 +71,7 @@ pub record DeclaredType : Type 0 where
 abbrev pub type_declared : (unsized : Bool) → Ty → DeclaratorTree → State → Option (After DeclaredType)
 type_declared unsized t d s = do
   a ← steps d s
-  give (derived unsized (env a.state) a.value.list t >>= λ t. Some (record { t = t; unsized = list_any is_unsized a.value.list })) a.state
+  give (derived_type unsized (env a.state) a.value.list t >>= λ t. Some (record { t = t; unsized = list_any is_unsized a.value.list })) a.state
 
 -- ---- at file scope
 
@@ -83,7 +83,7 @@ typedef_again (Some _) n t u = None
 
 -- 6.7p3: by what the name stands for at file scope
 abbrev pub typedef_found : ℕ → Ty → UnitState → Option UnitState
-typedef_found n t u = typedef_again (find (innermost u.state.scopes).names n) n t u
+typedef_found n t u = typedef_again (find (innermost_scope u.state.scopes).names n) n t u
 
 -- 6.7.8p3: a typedef name; `main` is a function (5.1.2.2.1p1)
 -- worked: typedef_names (proofs/WorkedDeclarations)
@@ -98,23 +98,23 @@ is_extern storage.Extern = true
 is_extern _ = false
 
 -- 6.9.2p1, p2, 6.9p5: what a declaration says of an object or a function, beside what others said
-abbrev pub noted : Bool → ℕ → (defined initialized unsized : Bool) → UnitState → UnitState
-noted function k d i b u = record u { entities = marked function k d i b u.entities }
+abbrev pub after_declaration : Bool → ℕ → (defined initialized unsized : Bool) → UnitState → UnitState
+after_declaration function k d i b u = record u { entities = entities_after function k d i b u.entities }
 
 -- 6.7.9: it has one initializer at most, which may complete its type
 abbrev pub object_initialized : InitializerTree → ℕ × UnitState → Option UnitState
 object_initialized i a =
     if is_initialized false a.0 a.1.entities then None
     else (do
-      f ← initialized true (object_at a.1.state.unit a.0).t i a.1.state
-      Some (noted false a.0 true true false (record a.1 { state = with_given a.0 f.value f.state })))
+      f ← typed_initializer true (object_at a.1.state.unit a.0).t i a.1.state
+      Some (after_declaration false a.0 true true false (record a.1 { state = with_given a.0 f.value f.state })))
 
 -- 6.7p4, 6.7.6.3, 6.9.2p1, p2: a function without a body is declared, and so is an object without an initializer, which is defined where it is not
 -- `extern`
 abbrev pub plain_entity : Storage → Ty → ℕ × ℕ → Bool → UnitState → Option UnitState
 plain_entity x t n unsized u =
-    if is_function t then and_then (function_declared n.0 n.1 t u) (λ a. Some (noted true a.0 false false unsized a.1))
-    else and_then (object_declared n.0 n.1 t u) (λ a. Some (noted false a.0 (not (is_extern x)) false unsized a.1))
+    if is_function t then and_then (function_declared n.0 n.1 t u) (λ a. Some (after_declaration true a.0 false false unsized a.1))
+    else and_then (object_declared n.0 n.1 t u) (λ a. Some (after_declaration false a.0 (not (is_extern x)) false unsized a.1))
 
 -- 6.7.9p3: an object with an initializer, which no function has
 abbrev pub given_entity : Ty → ℕ × ℕ → InitializerTree → UnitState → Option UnitState

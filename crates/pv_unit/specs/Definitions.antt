@@ -12,10 +12,10 @@ use Rattle.pv_check.specs.State.{State, ◌>>=◌, must, env, ◌>>◌}
 use Rattle.pv_typed.specs.Constants.{and_then}
 use Rattle.pv_check.specs.declared.specifiers.Storage.{Storage}
 use Rattle.pv_check.specs.declared.specifiers.Storage.TheVariants as storage
-use Rattle.pv_check.specs.Derivations.{Parameter, Signature, declared_name, derived}
+use Rattle.pv_check.specs.Derivations.{Parameter, Signature, declared_name, derived_type}
 use Rattle.pv_check.specs.Typing.{steps}
 use Rattle.pv_unit.specs.Redeclarations.{Entity, UnitState, unit_name, is_initialized, function_declared, is_entity}
-use Rattle.pv_unit.specs.Declarations.{specified_by, noted}
+use Rattle.pv_unit.specs.Declarations.{specified_by, after_declaration}
 use Rattle.std.specs.List.{list_all}
 
 -- 6.9.1p2, p7: the function that is defined, the type of its result, and its parameters with the scope that they leave
@@ -35,7 +35,7 @@ may_be_defined s n t variadic ps =
 abbrev pub defined_once : Ty → Signature → ℕ × UnitState → Option (Head × UnitState)
 defined_once t g a =
     if is_initialized true a.0 a.1.entities then None
-    else Some (record { function = a.0; result = t; signature = g }, noted true a.0 true true false a.1)
+    else Some (record { function = a.0; result = t; signature = g }, after_declaration true a.0 true true false a.1)
 
 -- 6.9.1p1, p2: the type of what is defined is a function type; the function is declared with it, and defined
 abbrev pub head_of : Ty → Signature → ℕ × ℕ → UnitState → Option (Head × UnitState)
@@ -59,7 +59,7 @@ head specs d u = do
   n ← declared_name d
   a ← steps d x.state
   g ← a.value.signature
-  t ← derived false (env a.state) a.value.list x.value.t
+  t ← derived_type false (env a.state) a.value.list x.value.t
   head_of t g n (record u { state = a.state })
 
 -- ---- at the end of the unit

@@ -15,8 +15,8 @@ abbrev pub counted_state : State → State
 counted_state s = record s { unit = with_declaration s.unit }
 
 -- 6.9p1: one external declaration more, in what is known behind it
-abbrev pub counted : UnitState → Option UnitState
-counted u = Some (record u { state = record u.state { unit = with_declaration u.state.unit } })
+abbrev pub with_one_external : UnitState → Option UnitState
+with_one_external u = Some (record u { state = record u.state { unit = with_declaration u.state.unit } })
 
 -- 6.9.1: the function f has this body
 abbrev pub with_body : ℕ → TypedStatement → State → State

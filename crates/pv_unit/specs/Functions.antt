@@ -6,7 +6,7 @@ use Rattle.pv_typed.specs.TypedUnits.{function_at}
 use Rattle.pv_typed.specs.Adding.{with_param}
 use Rattle.pv_check.specs.Derivations.{Parameter}
 use Rattle.pv_check.specs.State.{State, Scope, After}
-use Rattle.pv_check.specs.Scopes.{left}
+use Rattle.pv_check.specs.Scopes.{behind_scope}
 use Rattle.pv_typed.specs.Constants.{and_then}
 use Rattle.pv_unit.specs.Declarations.{file_declaration}
 use Rattle.pv_unit.specs.Definitions.{Head, head}
@@ -31,7 +31,7 @@ with_parameters f ps s = fold (λ s (p : Parameter). with_parameter f p.object s
 -- 6.9.1: the function has its parameters, and as its body the block of what was typed
 abbrev pub defined_with : Head → (line : ℕ) → UnitState → After (List TypedStatement) → Option UnitState
 defined_with h line u x =
-    let s = with_parameters h.function h.signature.parameters (left x.state) in
+    let s = with_parameters h.function h.signature.parameters (behind_scope x.state) in
     Some (record u { state = with_function h.function (record (function_at s.unit h.function) { body = Some (block_of line x.value) }) s })
 
 -- 6.2.1p4: the scope of the parameters is that of the body's block

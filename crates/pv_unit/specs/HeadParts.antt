@@ -7,7 +7,7 @@ use Rattle.pv_types.specs.Layouts.{Entry, is_complete_in}
 use Rattle.pv_tree.specs.Syntax.{DeclaratorTree}
 use Rattle.pv_check.specs.State.{◌>>=◌, env, State}
 use Rattle.pv_typed.specs.Constants.{and_then}
-use Rattle.pv_check.specs.Derivations.{Derivation, Signature, Steps, declared_name, derived, Parameter}
+use Rattle.pv_check.specs.Derivations.{Derivation, Signature, Steps, declared_name, derived_type, Parameter}
 use Rattle.pv_check.specs.Specifiers.{Specified}
 use Rattle.pv_check.specs.Typing.{steps}
 use Rattle.pv_types.specs.Sorts.{is_void}
@@ -16,7 +16,7 @@ use Rattle.pv_unit.specs.Definitions.{Head, may_head, head_of, defined_once, is_
 
 -- 6.7.6p4, 6.7.6.2p1: the type that the declarator gives, in which `[]` stands in parameters alone (our choice)
 abbrev pub head_derived : Ty → List Derivation → Signature → ℕ × ℕ → UnitState → Option (Head × UnitState)
-head_derived t ds g n u = and_then (derived false (env u.state) ds t) (λ made. head_of made g n u)
+head_derived t ds g n u = and_then (derived_type false (env u.state) ds t) (λ made. head_of made g n u)
 
 -- 6.9.1p2, p5: a list of parameters stands next to the name, and no typedef name gives the type
 abbrev pub head_signed : Ty → Steps → ℕ × ℕ → UnitState → Option (Head × UnitState)

@@ -4,7 +4,7 @@ use Rattle.pv_typed.specs.TypedStatement as typed
 use Rattle.pv_typed.specs.TypedStatement.{TypedStatement}
 use Rattle.std.specs.Prelude.{Some, Option, ℕ, List, ◌++◌, [], ◌∷◌}
 use Rattle.pv_check.specs.State.{After, give, ◌>>=◌}
-use Rattle.pv_unit.specs.Statements.{round_of, block_of, reached, under, Label}
+use Rattle.pv_unit.specs.Statements.{round_of, block_of, reached_declarations, under, Label}
 use Rattle.pv_unit.specs.TypedStatements.{Body}
 use Rattle.pv_unit.specs.Blocks.{Reached, block_declaration}
 use Rattle.pv_tree.specs.Syntax.{DeclarationTree}
@@ -52,7 +52,7 @@ block_made line x = give (Some (block_of line x.value)) x.state
 
 -- 6.8.2: the objects that a declaration reaches, behind other items
 abbrev pub with_reached : List TypedStatement → After (List Reached) → Option (After (List TypedStatement))
-with_reached xs y = give (Some (xs ++ reached y.value)) y.state
+with_reached xs y = give (Some (xs ++ reached_declarations y.value)) y.state
 
 -- 6.8.2: a statement behind other items
 abbrev pub with_statement : List TypedStatement → After TypedStatement → Option (After (List TypedStatement))
@@ -60,7 +60,7 @@ with_statement xs y = give (Some (xs ++ (y.value ∷ []))) y.state
 
 -- 6.8.4.2: a declaration in a switch's block
 abbrev pub body_reached : Body → After (List Reached) → Option (After Body)
-body_reached x y = give (Some (record x { items = x.items ++ reached y.value })) y.state
+body_reached x y = give (Some (record x { items = x.items ++ reached_declarations y.value })) y.state
 
 -- 6.8.1: a statement under its labels, where the switch has these then
 abbrev pub body_with : Body → (all own : List Label) → After TypedStatement → Option (After Body)
@@ -72,4 +72,4 @@ body_made line x = give (Some (block_of line x.value.items)) x.state
 
 -- 6.8.2p1: a declaration behind other items; 6.8.2: the objects that a declaration reaches, behind other items
 abbrev pub declared_item : DeclarationTree → After (List TypedStatement) → Option (After (List TypedStatement))
-declared_item d x = block_declaration d x.state >>= λ y. give (Some (x.value ++ reached y.value)) y.state
+declared_item d x = block_declaration d x.state >>= λ y. give (Some (x.value ++ reached_declarations y.value)) y.state

@@ -4,7 +4,7 @@ use Rattle.std.specs.declared.option.Option.TheVariants.{Some as Size, None as U
 use Rattle.pv_types.specs.Ty.{Ty, ArrayOf, StructTag, UnionTag}
 use Rattle.pv_types.specs.Layouts.{Part, Entry, Named, Placed, Completed, layout_in, layouts_of, is_complete_in}
 use Rattle.pv_types.specs.Members.{placed_in, member_part}
-use Rattle.pv_types.specs.Sorts.{bare, is_scalar, is_character}
+use Rattle.pv_types.specs.Sorts.{bare_type, is_scalar, is_character}
 
 -- 6.7.9p17: of these members the part of this number, from 0
 abbrev pub part_number : ℕ → List (Placed Named) → Option Part
@@ -32,7 +32,7 @@ part_in done _ i = None
 
 -- 6.7.9p17: the part that initializer number i of a list is for, within a part of an object, qualifiers aside
 abbrev pub part_at : List Completed → Part → ℕ → Option Part
-part_at done whole i = option_map (λ (p : Part). record { offset = whole.offset + p.offset; t = p.t }) (part_in done (bare whole.t) i)
+part_at done whole i = option_map (λ (p : Part). record { offset = whole.offset + p.offset; t = p.t }) (part_in done (bare_type whole.t) i)
 
 -- ---- kinds of types, qualifiers aside
 
@@ -50,12 +50,12 @@ text_layer _ = false
 
 -- 6.7.9p14: an array of characters
 abbrev pub is_text : Ty → Bool
-is_text t = text_layer (bare t)
+is_text t = text_layer (bare_type t)
 
 -- 6.7.9p22: an array of unknown size with so many elements; it has no qualifier itself (6.7.3p9)
-abbrev pub sized : Ty → ℕ → Ty
-sized (ArrayOf t Unknown) n = ArrayOf t (Size n)
-sized t n = t
+abbrev pub with_size : Ty → ℕ → Ty
+with_size (ArrayOf t Unknown) n = ArrayOf t (Size n)
+with_size t n = t
 
 -- 6.7.9p3: complete, or an array of unknown size
 abbrev pub can_be_initialized : List Entry → Ty → Bool

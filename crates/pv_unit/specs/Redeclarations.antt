@@ -7,8 +7,8 @@ use Rattle.pv_types.specs.Compatible.{are_compatible}
 use Rattle.pv_typed.specs.Mains.{named_main}
 use Rattle.pv_typed.specs.TypedUnits.{TypedFunction, object_at, function_at}
 use Rattle.pv_check.specs.State.{State, Meaning, ObjectName, FunctionName}
-use Rattle.pv_check.specs.Scopes.{innermost, find, bind}
-use Rattle.pv_check.specs.Composite.{composite}
+use Rattle.pv_check.specs.Scopes.{innermost_scope, find, bind}
+use Rattle.pv_check.specs.Composite.{composite_of}
 use Rattle.pv_library.specs.LibraryNames.{library_named}
 use Rattle.pv_check.specs.PrintfFormats.{is_printf}
 use Rattle.pv_library.specs.LibraryTypes.{prototype}
@@ -52,12 +52,12 @@ abbrev pub is_entity : Bool → ℕ → Entity → Bool
 is_entity function k e = beq e.function function && (e.number == k)
 
 -- 6.9p5: the objects and functions, of which one has what a declaration says, beside what others said
-abbrev pub marked : Bool → ℕ → (defined initialized unsized : Bool) → List Entity → List Entity
-marked function k d i b [] = []
-marked function k d i b (e ∷ es) =
+abbrev pub entities_after : Bool → ℕ → (defined initialized unsized : Bool) → List Entity → List Entity
+entities_after function k d i b [] = []
+entities_after function k d i b (e ∷ es) =
     if is_entity function k e
     then record e { defined = e.defined || d; initialized = e.initialized || i; unsized = e.unsized || b } ∷ es
-    else e ∷ marked function k d i b es
+    else e ∷ entities_after function k d i b es
 
 -- 6.9p5: it has an initializer or a body already
 abbrev pub is_initialized : Bool → ℕ → List Entity → Bool
@@ -87,14 +87,14 @@ abbrev pub object_again : Option Meaning → ℕ → ℕ → Ty → UnitState �
 object_again None n line t u = Some (with_new_object n line t u)
 object_again (Some (ObjectName o)) n line t u =
     if are_compatible (object_at u.state.unit o).t t
-    then Some (o, record u { state = with_object_type o (composite (object_at u.state.unit o).t t) u.state })
+    then Some (o, record u { state = with_object_type o (composite_of (object_at u.state.unit o).t t) u.state })
     else None
 object_again (Some _) n line t u = None
 
 -- 6.7p4, 5.1.2.2.1p1: an object of file scope; `main` is a function
 -- worked: redeclared_objects (proofs/WorkedDeclarations)
 abbrev pub object_declared : ℕ → ℕ → Ty → UnitState → Option (ℕ × UnitState)
-object_declared n line t u = if named_main u.state.unit.names (unit_name n) then None else object_again (find (innermost u.state.scopes).names n) n line t u
+object_declared n line t u = if named_main u.state.unit.names (unit_name n) then None else object_again (find (innermost_scope u.state.scopes).names n) n line t u
 
 -- ---- a function
 
@@ -116,7 +116,7 @@ abbrev pub function_again : Option Meaning → ℕ → ℕ → Ty → UnitState 
 function_again None n line t u = Some (with_new_function n line t u)
 function_again (Some (FunctionName f)) n line t u =
     if are_compatible (function_at u.state.unit f).t t
-    then Some (f, record u { state = with_function_type f (composite (function_at u.state.unit f).t t) u.state })
+    then Some (f, record u { state = with_function_type f (composite_of (function_at u.state.unit f).t t) u.state })
     else None
 function_again (Some _) n line t u = None
 
@@ -138,4 +138,4 @@ may_have texts n t =
 -- worked: function_types (proofs/WorkedDeclarations)
 abbrev pub function_declared : ℕ → ℕ → Ty → UnitState → Option (ℕ × UnitState)
 function_declared n line t u =
-    if may_have u.state.unit.names (unit_name n) t then function_again (find (innermost u.state.scopes).names n) n line t u else None
+    if may_have u.state.unit.names (unit_name n) t then function_again (find (innermost_scope u.state.scopes).names n) n line t u else None

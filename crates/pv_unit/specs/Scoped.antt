@@ -5,17 +5,17 @@ use Rattle.pv_tree.specs.Syntax.{ExpressionTree, StatementTree, Block, If, IfEls
 use Rattle.pv_typed.specs.TypedTree.{TypedTree}
 use Rattle.pv_typed.specs.TypedStatement.{TypedStatement}
 use Rattle.pv_check.specs.State.{State, After, give}
-use Rattle.pv_check.specs.Scopes.{entered}
+use Rattle.pv_check.specs.Scopes.{in_new_scope}
 use Rattle.pv_typed.specs.Constants.{and_then}
 use Rattle.pv_unit.specs.Blocks.{block_declaration}
-use Rattle.pv_unit.specs.Statements.{Around, in_loop, leaving, valued, condition, optional, Label, typed_labels, under, Switched, switched}
+use Rattle.pv_unit.specs.Statements.{Around, in_loop, leaving, taken_value, condition, expression_if_any, Label, typed_labels, under, Switched, switch_value}
 use Rattle.pv_unit.specs.StatementParts.{in_switch}
 use Rattle.pv_unit.specs.TypedStatements.{Body, if_automatic, typed_statement, typed_items, switch_items, switch_block}
 use Rattle.pv_unit.specs.Made.{if_made, else_made, while_made, do_made, for_made, round_made, switch_made, block_made, body_made}
 
 -- 6.8.4p3, 6.8.5p5: a statement in a scope of its own
 abbrev pub inner : Around → StatementTree → State → Option (After TypedStatement)
-inner w b s = leaving (typed_statement w b (entered s))
+inner w b s = leaving (typed_statement w b (in_new_scope s))
 
 -- what follows the parts of each statement
 
@@ -45,11 +45,11 @@ for_last w line body f c t = and_then (inner (in_loop w) body t.state) (for_made
 
 -- 6.8.5.3: what follows its second expression
 abbrev pub for_step : Around → (line : ℕ) → OptionalTree → StatementTree → Option TypedTree → After (Option TypedTree) → Option (After TypedStatement)
-for_step w line step body f c = and_then (optional valued step c.state) (for_last w line body f c.value)
+for_step w line step body f c = and_then (expression_if_any taken_value step c.state) (for_last w line body f c.value)
 
 -- 6.8.5.3: what follows its first expression
 abbrev pub for_behind : Around → (line : ℕ) → OptionalTree → OptionalTree → StatementTree → After (Option TypedTree) → Option (After TypedStatement)
-for_behind w line a step body f = and_then (optional condition a f.state) (for_step w line step body f.value)
+for_behind w line a step body f = and_then (expression_if_any condition a f.state) (for_step w line step body f.value)
 
 -- 6.8.5.3: the same of a `for` with a declaration, behind its last expression
 abbrev pub round_last : Around → (line : ℕ) → StatementTree → List TypedStatement → Option TypedTree → After (Option TypedTree) → Option (After TypedStatement)
@@ -57,27 +57,27 @@ round_last w line body xs c t = and_then (inner (in_loop w) body t.state) (round
 
 -- 6.8.5.3: behind its condition
 abbrev pub round_step : Around → (line : ℕ) → OptionalTree → StatementTree → List TypedStatement → After (Option TypedTree) → Option (After TypedStatement)
-round_step w line step body xs c = and_then (optional valued step c.state) (round_last w line body xs c.value)
+round_step w line step body xs c = and_then (expression_if_any taken_value step c.state) (round_last w line body xs c.value)
 
 -- 6.8.5.3: behind its declaration
 abbrev pub round_behind : Around → (line : ℕ) → OptionalTree → OptionalTree → StatementTree → After (List TypedStatement) → Option (After TypedStatement)
-round_behind w line a step body f = and_then (optional condition a f.state) (round_step w line step body f.value)
+round_behind w line a step body f = and_then (expression_if_any condition a f.state) (round_step w line step body f.value)
 
 -- 6.8.4.2: what follows the controlling expression of a `switch`
 abbrev pub switch_behind : Around → (line : ℕ) → StatementTree → After Switched → Option (After TypedStatement)
 switch_behind w line body c = and_then (switch_block w c.value.kind body c.state) (switch_made line c.value.value)
 
 -- 6.8.2, 6.8.4p3, 6.8.5p5: a statement that has a scope, within it
-abbrev pub scoped : Around → StatementTree → State → Option (After TypedStatement)
-scoped w (Block line items) z = and_then (typed_items w items z) (block_made line)
-scoped w (If line a body) z = and_then (condition a z) (if_behind w line body)
-scoped w (IfElse line a body other) z = and_then (condition a z) (else_behind w line body other)
-scoped w (While line a body) z = and_then (condition a z) (while_behind w line body)
-scoped w (DoWhile line body a) z = and_then (inner (in_loop w) body z) (do_behind line a)
-scoped w (For line first a step body) z = and_then (optional valued first z) (for_behind w line a step body)
-scoped w (ForDeclaration line d a step body) z = and_then (and_then (block_declaration d z) if_automatic) (round_behind w line a step body)
-scoped w (Switch line a body) z = and_then (switched a z) (switch_behind w line body)
-scoped w _ z = None
+abbrev pub scoped_statement : Around → StatementTree → State → Option (After TypedStatement)
+scoped_statement w (Block line items) z = and_then (typed_items w items z) (block_made line)
+scoped_statement w (If line a body) z = and_then (condition a z) (if_behind w line body)
+scoped_statement w (IfElse line a body other) z = and_then (condition a z) (else_behind w line body other)
+scoped_statement w (While line a body) z = and_then (condition a z) (while_behind w line body)
+scoped_statement w (DoWhile line body a) z = and_then (inner (in_loop w) body z) (do_behind line a)
+scoped_statement w (For line first a step body) z = and_then (expression_if_any taken_value first z) (for_behind w line a step body)
+scoped_statement w (ForDeclaration line d a step body) z = and_then (and_then (block_declaration d z) if_automatic) (round_behind w line a step body)
+scoped_statement w (Switch line a body) z = and_then (switch_value a z) (switch_behind w line body)
+scoped_statement w _ z = None
 
 -- 6.8.2p2, 6.8.4p3, 6.8.5p5: whether it has one
 abbrev pub has_scope : StatementTree → Bool
@@ -104,21 +104,21 @@ pub record Marked : Type 0 where
   pub statement : TypedStatement
 
 -- 6.8.1: a statement with labels
-abbrev pub marked : (seen own : List Label) → After TypedStatement → Option (After Marked)
-marked seen own x = give (Some (record { labels = seen ++ own; statement = under own x.value })) x.state
+abbrev pub marked_statement : (seen own : List Label) → After TypedStatement → Option (After Marked)
+marked_statement seen own x = give (Some (record { labels = seen ++ own; statement = under own x.value })) x.state
 
 -- 6.8.1: a statement without labels
-abbrev pub unmarked : (seen : List Label) → After TypedStatement → Option (After Marked)
-unmarked seen x = give (Some (record { labels = seen; statement = x.value })) x.state
+abbrev pub unmarked_statement : (seen : List Label) → After TypedStatement → Option (After Marked)
+unmarked_statement seen x = give (Some (record { labels = seen; statement = x.value })) x.state
 
 -- 6.8.1: what follows the labels
 abbrev pub under_labels : Around → StatementTree → (seen : List Label) → After (List Label) → Option (After Marked)
-under_labels w b seen l = and_then (typed_statement w b l.state) (marked seen l.value)
+under_labels w b seen l = and_then (typed_statement w b l.state) (marked_statement seen l.value)
 
 -- 6.8.1: a statement of a switch's block, with labels or without
 abbrev pub labelled_statement : Around → IntKind → StatementTree → (seen : List Label) → State → Option (After Marked)
 labelled_statement w k (Labelled line labels b) seen s = and_then (typed_labels k seen labels s) (under_labels w b seen)
-labelled_statement w k b seen s = and_then (typed_statement w b s) (unmarked seen)
+labelled_statement w k b seen s = and_then (typed_statement w b s) (unmarked_statement seen)
 
 -- 6.8.4.2: one statement more in the block of a `switch`
 abbrev pub with_marked : Body → After Marked → Option (After Body)

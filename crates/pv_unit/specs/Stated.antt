@@ -22,13 +22,13 @@ abbrev pub value_in : List (List ℕ) → Raw → Stored → NodeId → After Ty
 value_in texts s m n = record { value = expression_at m n; state = state_of texts false s m }
 
 -- a typed statement (6.8), and the state after it
-abbrev pub stated : List (List ℕ) → Raw → Stored → NodeId → After TypedStatement
-stated texts s m n = record { value = statement_at m n; state = state_of texts false s m }
+abbrev pub statement_after : List (List ℕ) → Raw → Stored → NodeId → After TypedStatement
+statement_after texts s m n = record { value = statement_at m n; state = state_of texts false s m }
 
 -- a typed statement (6.8) as an answer
 abbrev pub stated_if : List (List ℕ) → Raw → Stored → Option NodeId → Option (After TypedStatement)
 stated_if texts s m None = None
-stated_if texts s m (Some n) = Some (stated texts s m n)
+stated_if texts s m (Some n) = Some (statement_after texts s m n)
 
 -- statements (6.8) one after the other
 abbrev pub statements_in : Stored → List NodeId → List TypedStatement

@@ -4,8 +4,8 @@ use Rattle.std.specs.Prelude.{true, None, Some, if◌then◌else◌, Option, [],
 use Rattle.std.specs.List.{list_any, list_all}
 use Rattle.pv_types.specs.Sorts.{kind_of, is_scalar, is_void}
 use Rattle.pv_check.specs.State.{After, give, State, Meaning}
-use Rattle.pv_check.specs.Scopes.{innermost}
-use Rattle.pv_check.specs.Values.{assigned, promoted_value}
+use Rattle.pv_check.specs.Scopes.{innermost_scope}
+use Rattle.pv_check.specs.Values.{as_if_assigned, promoted_value}
 use Rattle.pv_typed.specs.TypedTree.{TypedTree, type_of}
 use Rattle.pv_typed.specs.Constants.{integer, and_then}
 use Rattle.pv_typed.specs.TypedStatement.{TypedStatement, Return}
@@ -30,8 +30,8 @@ abbrev pub stands : Label → List Label → Bool
 stands l xs = list_any (is_label l) xs
 
 -- 6.8.4.2p3: no two `case` labels of a switch have one value, and it has one `default` at most
-abbrev pub labelled : (seen own : List Label) → After Label → Option (After (List Label))
-labelled seen own x = if stands x.value (seen ++ own) then None else give (Some (own ++ (x.value ∷ []))) x.state
+abbrev pub labels_with : (seen own : List Label) → After Label → Option (After (List Label))
+labels_with seen own x = if stands x.value (seen ++ own) then None else give (Some (own ++ (x.value ∷ []))) x.state
 
 -- 6.8.4.2p3: an integer constant expression; p5: its value is converted to the promoted type of the switch
 abbrev pub case_label : IntKind → (line : ℕ) → After TypedTree → Option (After Label)
@@ -43,7 +43,7 @@ nothing_returned t line s = if is_void t then give (Some (Return line None)) s e
 
 -- 6.8.6.4p1, p3: in a function that returns a value: it is converted as if by assignment to an object of the function's type
 abbrev pub value_returned : (result : Ty) → (line : ℕ) → After TypedTree → Option (After TypedStatement)
-value_returned t line x = if is_void t then None else and_then (assigned t x.value) (λ e. give (Some (Return line (Some e))) x.state)
+value_returned t line x = if is_void t then None else and_then (as_if_assigned t x.value) (λ e. give (Some (Return line (Some e))) x.state)
 
 -- 6.8.4.2p1, p5: the integer promotions of an integer
 abbrev pub switched_by : After TypedTree → Option (After Switched)
@@ -55,4 +55,4 @@ are_automatic s es = list_all (λ (e : ℕ × Meaning). is_automatic s e.1) es
 
 -- 6.8.5p3: the innermost scope declares nothing but automatic objects
 abbrev pub automatic_alone : State → Bool
-automatic_alone s = are_automatic s (innermost s.scopes).names && (length (innermost s.scopes).tags == 0)
+automatic_alone s = are_automatic s (innermost_scope s.scopes).names && (length (innermost_scope s.scopes).tags == 0)

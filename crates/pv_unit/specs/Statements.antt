@@ -10,11 +10,11 @@ use Rattle.pv_typed.specs.TypedStatement.{TypedStatement, Block, ForDeclaration,
 use Rattle.pv_typed.specs.TypedUnits.{object_at}
 use Rattle.pv_typed.specs.Constants.{integer, and_then}
 use Rattle.pv_check.specs.State.{State, After, Meaning, ObjectName, give}
-use Rattle.pv_check.specs.Scopes.{left}
+use Rattle.pv_check.specs.Scopes.{behind_scope}
 use Rattle.pv_types.specs.Sorts.{kind_of, is_scalar, is_void}
 use Rattle.pv_check.specs.Typing.{types}
 use Rattle.pv_check.specs.Rows.{operand}
-use Rattle.pv_check.specs.Values.{assigned, promoted_value}
+use Rattle.pv_check.specs.Values.{as_if_assigned, promoted_value}
 use Rattle.pv_unit.specs.Blocks.{Reached}
 use Rattle.std.specs.List.{list_any, flat_map}
 use Rattle.std.specs.Option.{option_map}
@@ -32,21 +32,21 @@ in_loop w = record w { breaks = true; continues = true }
 
 -- 6.8.2p2, 6.8.4p3, 6.8.5p5: what was typed in a scope that ends with it
 abbrev pub leaving : {A : Type 0} → Option (After A) → Option (After A)
-leaving {A} o = option_map (λ (x : After A). record { value = x.value; state = left x.state }) o
+leaving {A} o = option_map (λ (x : After A). record { value = x.value; state = behind_scope x.state }) o
 
 -- 6.3.2.1p2: an expression, and its value taken
-abbrev pub valued : ExpressionTree → State → Option (After TypedTree)
-valued a s = operand (types a s)
+abbrev pub taken_value : ExpressionTree → State → Option (After TypedTree)
+taken_value a s = operand (types a s)
 
 -- 6.8.4.1p1, 6.8.5p2: a condition is a scalar
 abbrev pub condition : ExpressionTree → State → Option (After TypedTree)
-condition a s = and_then (valued a s) (λ x. if is_scalar (type_of x.value) then Some x else None)
+condition a s = and_then (taken_value a s) (λ x. if is_scalar (type_of x.value) then Some x else None)
 
 -- 6.8.3p3, 6.8.5.3p2, 6.8.6.4: an expression that may be left out
-abbrev pub optional : (ExpressionTree → State → Option (After TypedTree)) → OptionalTree → State → Option (After (Option TypedTree))
-optional typed Absent s = give (Some None) s
-optional typed (Present (OfExpression a)) s = and_then (typed a s) (λ x. give (Some (Some x.value)) x.state)
-optional typed (Present _) s = None
+abbrev pub expression_if_any : (ExpressionTree → State → Option (After TypedTree)) → OptionalTree → State → Option (After (Option TypedTree))
+expression_if_any typed Absent s = give (Some None) s
+expression_if_any typed (Present (OfExpression a)) s = and_then (typed a s) (λ x. give (Some (Some x.value)) x.state)
+expression_if_any typed (Present _) s = None
 
 -- ---- labels (6.8.1, 6.8.4.2)
 
@@ -63,7 +63,7 @@ is_label _ _ = false
 
 -- 6.8.1p1, 6.8.4.2p3, p5: one label: `case` with an integer constant expression, converted to the promoted type of the switch, or `default`
 abbrev pub typed_label : IntKind → StatementTree → State → Option (After Label)
-typed_label k (Case line a) s = and_then (valued a s) (λ x. and_then (integer x.value) (λ n. give (Some (CaseLabel line (convert_of k n))) x.state))
+typed_label k (Case line a) s = and_then (taken_value a s) (λ x. and_then (integer x.value) (λ n. give (Some (CaseLabel line (convert_of k n))) x.state))
 typed_label k (Default line) s = give (Some (DefaultLabel line)) s
 typed_label k _ s = None
 
@@ -89,11 +89,11 @@ under (DefaultLabel line ∷ ls) b = DefaultOf line (under ls b)
 
 -- 6.8.6.4p1, p3: `return` without an expression in a function that returns `void`, else with one, converted as if by assignment to an object of the
 -- function's type
-abbrev pub returned : (result : Ty) → (line : ℕ) → OptionalTree → State → Option (After TypedStatement)
-returned t line Absent s = if is_void t then give (Some (Return line None)) s else None
-returned t line (Present (OfExpression a)) s =
-    and_then (valued a s) (λ x. if is_void t then None else and_then (assigned t x.value) (λ e. give (Some (Return line (Some e))) x.state))
-returned t line (Present _) s = None
+abbrev pub return_of : (result : Ty) → (line : ℕ) → OptionalTree → State → Option (After TypedStatement)
+return_of t line Absent s = if is_void t then give (Some (Return line None)) s else None
+return_of t line (Present (OfExpression a)) s =
+    and_then (taken_value a s) (λ x. if is_void t then None else and_then (as_if_assigned t x.value) (λ e. give (Some (Return line (Some e))) x.state))
+return_of t line (Present _) s = None
 
 -- ---- switches (6.8.4.2)
 
@@ -103,17 +103,17 @@ pub record Switched : Type 0 where
   pub kind : IntKind
 
 -- 6.8.4.2p1, p5: the controlling expression is an integer, which is promoted
-abbrev pub switched : ExpressionTree → State → Option (After Switched)
-switched a s =
-    and_then (valued a s) (λ x. and_then (kind_of (type_of (promoted_value x.value))) (λ k.
+abbrev pub switch_value : ExpressionTree → State → Option (After Switched)
+switch_value a s =
+    and_then (taken_value a s) (λ x. and_then (kind_of (type_of (promoted_value x.value))) (λ k.
     give (Some (record { value = promoted_value x.value; kind = k })) x.state))
 
 -- ---- blocks (6.8.2)
 
 -- 6.2.4p6, 6.8p3: reaching the declarations of automatic objects
-abbrev pub reached : List Reached → List TypedStatement
-reached [] = []
-reached (x ∷ xs) = Declare x.line x.object ∷ reached xs
+abbrev pub reached_declarations : List Reached → List TypedStatement
+reached_declarations [] = []
+reached_declarations (x ∷ xs) = Declare x.line x.object ∷ reached_declarations xs
 
 -- 6.2.4p5: the automatic object that an item of a block declares
 abbrev pub declared_by : TypedStatement → List ℕ

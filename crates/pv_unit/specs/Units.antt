@@ -42,9 +42,9 @@ is_unresolved s e =
     list_any (uses e.function e.number) s.used && (not e.defined && not (e.function && is_some (library_named (name_at s.unit (unit_name e.name)))))
 
 -- 6.9p5: the name of the first one, in the order of their first declarations
-abbrev pub unresolved : State → List Entity → Option ℕ
-unresolved s [] = None
-unresolved s (e ∷ es) = if is_unresolved s e then Some e.name else unresolved s es
+abbrev pub first_unresolved : State → List Entity → Option ℕ
+first_unresolved s [] = None
+first_unresolved s (e ∷ es) = if is_unresolved s e then Some e.name else first_unresolved s es
 
 -- 5.1.2.2.1p1: the unit defines `main`: one of its functions has this name and a body
 abbrev pub has_main : WholeUnit → Bool
@@ -60,8 +60,8 @@ statics_from es k (o ∷ os) = if o.lasting && is_defined k es then k ∷ static
 -- ---- units
 
 -- before the first declaration: the unit's names are those of the tokens, behind two that no token has (6.2.1p4: one scope, of the file)
-abbrev pub first : Table → UnitState
-first t = record {
+abbrev pub unit_at_first : Table → UnitState
+unit_at_first t = record {
   state = record {
     scopes = no_scope ∷ [];
     unit = record {
@@ -106,8 +106,8 @@ abbrev pub with_placed : List ℕ → WholeUnit → WholeUnit
 with_placed fs u = record u { placed = u.placed ++ fs }
 
 -- 6.9p1, 6.2.4p3: the unit behind the last one, with the static objects, and the functions that are pointed to
-abbrev pub finished : UnitState → WholeUnit
-finished u =
+abbrev pub finished_unit : UnitState → WholeUnit
+finished_unit u =
     with_placed (placed_from u.state.used 0 u.state.unit.functions) (with_statics (statics_from u.entities 0 u.state.unit.objects) u.state.unit)
 
 -- 5.1.1.3p1: what comes of a unit: its typing, or why there is none
@@ -131,8 +131,8 @@ IsTyped ds before behind = typed_to ds (length ds) before ≡ Some behind
 -- worked: unresolved_names, static_objects (proofs/WorkedUnits); pointed_rows, unpointed_rows, refused_rows, undefined_rows
 --   (proofs/WorkedPointers)
 abbrev pub UnitComes : Table → List DeclarationTree → Checked → Type 0
-UnitComes t ds (Constraint n) = Breaks ds (first t) n
-UnitComes t ds (Unresolved name) = (u : UnitState) × (IsTyped ds (first t) u × (unresolved u.state u.entities ≡ Some name))
-UnitComes t ds NoMain = (u : UnitState) × (IsTyped ds (first t) u × (unresolved u.state u.entities ≡ None) × (has_main u.state.unit ≡ false))
+UnitComes t ds (Constraint n) = Breaks ds (unit_at_first t) n
+UnitComes t ds (Unresolved name) = (u : UnitState) × (IsTyped ds (unit_at_first t) u × (first_unresolved u.state u.entities ≡ Some name))
+UnitComes t ds NoMain = (u : UnitState) × (IsTyped ds (unit_at_first t) u × (first_unresolved u.state u.entities ≡ None) × (has_main u.state.unit ≡ false))
 UnitComes t ds (Typed w) =
-    (u : UnitState) × (IsTyped ds (first t) u × (unresolved u.state u.entities ≡ None) × (has_main u.state.unit ≡ true) × (w ≡ finished u))
+    (u : UnitState) × (IsTyped ds (unit_at_first t) u × (first_unresolved u.state u.entities ≡ None) × (has_main u.state.unit ≡ true) × (w ≡ finished_unit u))

@@ -8,10 +8,10 @@ ghost use Rattle.pv_typed.specs.Tables.{nodes};
 ghost use Rattle.pv_typed.specs.NodeTrees.{list_at, statement_at, IsStatement};
 ghost use Rattle.pv_typed.specs.TypedStatement.{Declare};
 ghost use Rattle.pv_check.specs.Open.{state_of, IsOpen};
-ghost use Rattle.pv_check.specs.Scopes.{entered, left};
+ghost use Rattle.pv_check.specs.Scopes.{in_new_scope, behind_scope};
 ghost use Rattle.pv_unit.specs.Reaching.{AreReached, reached_of};
 ghost use Rattle.pv_unit.specs.Stated.{optional_list, statements_in, optional_in, items_if, IsOptional, AreStatements, StatementsOn, Moves, MovesOn, items_in};
-ghost use Rattle.pv_unit.specs.Statements.{reached, declared_by, declared_in, block_of, round_of};
+ghost use Rattle.pv_unit.specs.Statements.{reached_declarations, declared_by, declared_in, block_of, round_of};
 ghost use Rattle.pv_unit.specs.Made.{declared_item};
 
 use crate::blocks::{Reached, block_declaration};
@@ -47,7 +47,7 @@ pub(crate) fn enter(s: &mut Scopes, into: &TypedUnit) -> Result<(), NoMemory>
     requires { IsOpen into.now s.old }
     ensures opened { OnOk result (IsOpen into.now s.new) }
     ensures deep { OnOk result (length s.new.scopes ≡ length s.old.scopes + 1) }
-    ensures state { OnOk result ((texts : List (List ℕ)) → state_of texts false s.new into.now ≡ entered (state_of texts false s.old into.now)) }
+    ensures state { OnOk result ((texts : List (List ℕ)) → state_of texts false s.new into.now ≡ in_new_scope (state_of texts false s.old into.now)) }
 {
     s.enter()?;
     Ok(())
@@ -59,7 +59,7 @@ pub(crate) fn leave(s: &mut Scopes, into: &TypedUnit)
     requires within { 1 < length s.old.scopes }
     ensures opened { IsOpen into.now s.new }
     ensures deep { length s.new.scopes + 1 ≡ length s.old.scopes }
-    ensures state { (texts : List (List ℕ)) → state_of texts false s.new into.now ≡ left (state_of texts false s.old into.now) }
+    ensures state { (texts : List (List ℕ)) → state_of texts false s.new into.now ≡ behind_scope (state_of texts false s.old into.now) }
 {
     s.leave();
 }
@@ -95,7 +95,7 @@ fn declare(
     requires objects { AreReached into.old all.now }
     requires items { AreStatements into.old items.old.items }
     ensures there { OnOk result (AreStatements into.new items.new.items) }
-    ensures items { OnOk result (statements_in into.new items.new.items ≡ statements_in into.old items.old.items ++ reached (map reached_of all.now)) }
+    ensures items { OnOk result (statements_in into.new items.new.items ≡ statements_in into.old items.old.items ++ reached_declarations (map reached_of all.now)) }
     ensures state { OnOk result ((texts : List (List ℕ)) → state_of texts false s.now into.new ≡ state_of texts false s.now into.old) }
     ensures moves { OnOk result (Moves into.old s.now into.new s.now) }
 {

@@ -4,11 +4,11 @@ ghost use Rattle.pv_types.specs.Known.{tree};
 ghost use Rattle.pv_tree.specs.Syntax.{OfInitializer, Present};
 ghost use Rattle.pv_tree.specs.Tables.{Forest, Is, HasList, HasOptional, trees_at, declaration_at, initializer_at, optional_at, is_declaration, is_declarator, is_initializer, is_specifier};
 ghost use Rattle.pv_types.specs.Layouts.{is_complete_in};
-ghost use Rattle.pv_typed.specs.Tables.{Stored, whole};
+ghost use Rattle.pv_typed.specs.Tables.{Stored, whole_unit};
 ghost use Rattle.pv_typed.specs.TypedUnits.{object_at};
 ghost use Rattle.pv_check.specs.State.{env};
 ghost use Rattle.pv_check.specs.Open.{state_of, IsOpen, Goes};
-ghost use Rattle.pv_unit.specs.Blocks.{is_present, block_storage, with_initializer, block_object, block_declarators, block_alone, block_declaration, reached};
+ghost use Rattle.pv_unit.specs.Blocks.{is_present, block_storage, with_initializer, block_object, block_declarators, block_alone, block_declaration, reached_object};
 ghost use Rattle.pv_unit.specs.BlockParts.{block_declared};
 ghost use Rattle.pv_unit.specs.Declarations.{only_tag};
 ghost use Rattle.pv_unit.specs.DeclaredIn.{OpenOn, GoesOn, state_on};
@@ -48,7 +48,7 @@ fn block_storage(storage: Storage) -> Option<bool>
 fn is_whole(s: &Scopes, into: &TypedUnit, o: u32) -> bool
     requires opened { IsOpen into.now s.now }
     requires object { o < length into.now.objects }
-    ensures { (texts : List (List ℕ)) → result ≡ is_complete_in (env (state_of texts false s.now into.now)) (object_at (whole into.now) o).t }
+    ensures { (texts : List (List ℕ)) → result ≡ is_complete_in (env (state_of texts false s.now into.now)) (object_at (whole_unit into.now) o).t }
 {
     into.types().is_complete(into.object(o).t)
 }
@@ -120,7 +120,7 @@ fn block_object(
     requires known { made.0 < length into.old.known.terms }
     ensures opened { IfOk result (λ r. IfSome r (λ o. IsOpen into.new s.new)) }
     ensures goes { IfOk result (λ r. IfSome r (λ o. Goes into.old into.new)) }
-    ensures number { IfOk result (λ r. IfSome r (λ o. (o ≡ length (whole into.old).objects) × (o < length into.new.objects))) }
+    ensures number { IfOk result (λ r. IfSome r (λ o. (o ≡ length (whole_unit into.old).objects) × (o < length into.new.objects))) }
     ensures answer { IfOk result (λ r. state_on t.now.texts s.new into.new (is_some r) ≡ block_object lasting (tree into.old.known made.0) (name, line) (optional_at u.now.forest init) (state_of t.now.texts false s.old into.old)) }
 {
     if found(s, into, name).is_some() {
@@ -143,7 +143,7 @@ fn is_given(init: Option<NodeId>) -> bool
 
 /// An automatic object is reached, behind those that there are; a static one is not.
 fn reach(all: &mut Vec<Reached>, lasting: bool, object: u32, line: u32) -> Result<(), NoMemory>
-    ensures all { OnOk result ((n : ℕ) → map reached_of all.new.items ≡ map reached_of all.old.items ++ reached lasting object (n, line)) }
+    ensures all { OnOk result ((n : ℕ) → map reached_of all.new.items ≡ map reached_of all.old.items ++ reached_object lasting object (n, line)) }
     ensures there { OnOk result ((m : Stored) → AreReached m all.old.items → object < length m.objects → AreReached m all.new.items) }
 {
     if !lasting {

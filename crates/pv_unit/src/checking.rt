@@ -8,7 +8,7 @@ ghost use Rattle.pv_types.specs.Ty.{StructTag};
 ghost use Rattle.pv_typed.specs.Formed.{Grown};
 ghost use Rattle.pv_typed.specs.Known.{AreKnown};
 ghost use Rattle.pv_typed.specs.Mains.{main_of};
-ghost use Rattle.pv_typed.specs.Tables.{whole};
+ghost use Rattle.pv_typed.specs.Tables.{whole_unit};
 ghost use Rattle.pv_check.specs.Open.{state_of, IsOpen};
 ghost use Rattle.pv_check.specs.Raw.{Raw, used_of};
 ghost use Rattle.pv_unit.specs.Checking.{externals_in, IsStop, IsResolved, IsLack, IsCause, IsNamed};
@@ -16,7 +16,7 @@ ghost use Rattle.pv_unit.specs.Definitions.{may_end};
 ghost use Rattle.pv_unit.specs.Identifiers.{HasIdentifiers};
 ghost use Rattle.pv_unit.specs.Outside.{unit_state};
 ghost use Rattle.pv_unit.specs.There.{AreThere};
-ghost use Rattle.pv_unit.specs.Units.{Checked, IsTyped, Typed, UnitComes, finished, first, statics_from, placed_from, with_statics, with_placed};
+ghost use Rattle.pv_unit.specs.Units.{Checked, IsTyped, Typed, UnitComes, finished_unit, unit_at_first, statics_from, placed_from, with_statics, with_placed};
 ghost use Rattle.pv_unit.specs.declared.checking.CheckError.TheVariants.{NoMemory as OutOfMemory};
 
 use crate::ending::may_end;
@@ -116,7 +116,7 @@ fn resolved(t: &Tokens, s: &Scopes, into: &TypedUnit, outer: &Outer) -> Result<(
 
 /// Notes the static objects.
 fn with_statics(into: &mut TypedUnit, outer: &Outer) -> Result<(), CheckError>
-    ensures whole { OnOk result (whole into.new ≡ with_statics (statics_from outer.now.entities 0 (whole into.old).objects) (whole into.old)) }
+    ensures whole { OnOk result (whole_unit into.new ≡ with_statics (statics_from outer.now.entities 0 (whole_unit into.old).objects) (whole_unit into.old)) }
     ensures types { OnOk result (into.new.known ≡ into.old.known) }
     ensures grown { OnOk result (Grown into.old into.new) }
     ensures refused { IfErr result (λ e. e ≡ OutOfMemory) }
@@ -129,7 +129,7 @@ fn with_statics(into: &mut TypedUnit, outer: &Outer) -> Result<(), CheckError>
 
 /// Notes the functions that are pointed to.
 fn with_placed(s: &Scopes, into: &mut TypedUnit) -> Result<(), CheckError>
-    ensures whole { OnOk result (whole into.new ≡ with_placed (placed_from (map used_of s.now.used) 0 (whole into.old).functions) (whole into.old)) }
+    ensures whole { OnOk result (whole_unit into.new ≡ with_placed (placed_from (map used_of s.now.used) 0 (whole_unit into.old).functions) (whole_unit into.old)) }
     ensures types { OnOk result (into.new.known ≡ into.old.known) }
     ensures grown { OnOk result (Grown into.old into.new) }
     ensures refused { IfErr result (λ e. e ≡ OutOfMemory) }
@@ -142,7 +142,7 @@ fn with_placed(s: &Scopes, into: &mut TypedUnit) -> Result<(), CheckError>
 
 /// Notes the static objects, and the functions that are pointed to.
 fn with_both(s: &Scopes, into: &mut TypedUnit, outer: &Outer) -> Result<(), CheckError>
-    ensures whole { (texts : List (List ℕ)) → OnOk result (whole into.new ≡ finished (unit_state texts s.now into.old outer.now)) }
+    ensures whole { (texts : List (List ℕ)) → OnOk result (whole_unit into.new ≡ finished_unit (unit_state texts s.now into.old outer.now)) }
     ensures types { OnOk result (into.new.known ≡ into.old.known) }
     ensures grown { OnOk result (Grown into.old into.new) }
     ensures refused { IfErr result (λ e. e ≡ OutOfMemory) }
@@ -157,7 +157,7 @@ fn with_both(s: &Scopes, into: &mut TypedUnit, outer: &Outer) -> Result<(), Chec
 fn finished(t: &Tokens, s: &Scopes, into: &mut TypedUnit, outer: &Outer) -> Result<(), CheckError>
     requires known { AreKnown into.old }
     ensures fine { OnOk result (IsResolved (unit_state t.now.texts s.now into.old outer.now)) }
-    ensures whole { OnOk result (whole into.new ≡ finished (unit_state t.now.texts s.now into.old outer.now)) }
+    ensures whole { OnOk result (whole_unit into.new ≡ finished_unit (unit_state t.now.texts s.now into.old outer.now)) }
     ensures types { OnOk result (into.new.known ≡ into.old.known) }
     ensures grown { OnOk result (Grown into.old into.new) }
     ensures refused { IfErr result (IsLack (unit_state t.now.texts s.now into.old outer.now)) }
@@ -177,12 +177,12 @@ fn filled(
     into: &mut TypedUnit,
     outer: &mut Outer,
 ) -> Result<(), CheckError>
-    requires first { unit_state t.now.texts s.old into.old outer.old ≡ first t.now }
+    requires first { unit_state t.now.texts s.old into.old outer.old ≡ unit_at_first t.now }
     requires opened { IsOpen into.old s.old }
     requires entities { AreThere into.old outer.old.entities }
-    ensures typed { OnOk result (UnitComes t.now (externals_in u.now) (Typed (whole into.new))) }
+    ensures typed { OnOk result (UnitComes t.now (externals_in u.now) (Typed (whole_unit into.new))) }
     ensures known { OnOk result (AreKnown into.new) }
-    ensures main { OnOk result (IsTrue (is_some (main_of (whole into.new)))) }
+    ensures main { OnOk result (IsTrue (is_some (main_of (whole_unit into.new)))) }
     ensures small { OnOk result ((n : ℕ) → (layout_in (env into.new.known) (StructTag n)).size ≤ 2 ^ 32) }
     ensures refused { IfErr result (IsCause t.now (externals_in u.now)) }
     ensures named { IfErr result (IsNamed t.now) }
@@ -196,7 +196,7 @@ fn filled(
 /// A law of the tables of types, which are those of a unit with a function: each completed structure and union has a byte.
 fn no_empty_tag(into: &TypedUnit)
     requires known { AreKnown into.now }
-    requires main { IsTrue (is_some (main_of (whole into.now))) }
+    requires main { IsTrue (is_some (main_of (whole_unit into.now))) }
     ensures { AllFill (env into.now.known) }
 {
     let function = into.function(0);
@@ -207,10 +207,10 @@ fn no_empty_tag(into: &TypedUnit)
 /// and tells how many of them have one; `Unresolved` where they all have one, and an expression names what neither the
 /// unit nor the library defines; `NoMain` where neither is so, and `main` is not defined.
 pub fn check(alloc: Global, u: &Unit, t: &Tokens) -> Result<TypedUnit, CheckError>
-    ensures typed { IfOk result (λ w. UnitComes t.now (externals_in u.now) (Typed (whole w))) }
+    ensures typed { IfOk result (λ w. UnitComes t.now (externals_in u.now) (Typed (whole_unit w))) }
     ensures known { IfOk result AreKnown }
-    ensures identified { IfOk result (λ w. HasIdentifiers t.now (whole w)) }
-    ensures main { IfOk result (λ w. IsTrue (is_some (main_of (whole w)))) }
+    ensures identified { IfOk result (λ w. HasIdentifiers t.now (whole_unit w)) }
+    ensures main { IfOk result (λ w. IsTrue (is_some (main_of (whole_unit w)))) }
     ensures small { IfOk result (λ w. (n : ℕ) → (layout_in (env w.known) (StructTag n)).size ≤ 2 ^ 32) }
     ensures filled { IfOk result (λ w. AllFill (env w.known)) }
     ensures refused { IfErr result (IsCause t.now (externals_in u.now)) }

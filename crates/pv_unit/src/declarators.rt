@@ -7,7 +7,7 @@ ghost use Rattle.pv_check.specs.Stepping.{step_in, steps_in};
 ghost use Rattle.pv_check.specs.Raw.{raw_innermost};
 ghost use Rattle.pv_check.specs.Open.{state_of, IsOpen, Goes};
 ghost use Rattle.pv_check.specs.Tags.{tag_alone};
-ghost use Rattle.pv_check.specs.Scopes.{innermost};
+ghost use Rattle.pv_check.specs.Scopes.{innermost_scope};
 ghost use Rattle.pv_unit.specs.Declarations.{is_unsized, is_listed, has_list, only_tag, specified_by, type_declared, bound_in};
 ghost use Rattle.pv_unit.specs.DeclarationParts.{has_unsized};
 ghost use Rattle.pv_unit.specs.RuleParts.{composite_alone};
@@ -228,7 +228,7 @@ pub(crate) fn tag_alone(
 pub(crate) fn tags_alone(u: &Unit, s: &Scopes, into: &TypedUnit, list: ListId, before: u64) -> bool
     requires list { HasList u.now.forest (length u.now.forest.trees) is_specifier list }
     requires opened { IsOpen into.now s.now }
-    ensures { (texts : List (List ℕ)) → result ≡ (nat_lt before (bound_in (innermost (state_of texts false s.now into.now).scopes)) || has_list (trees_at u.now.forest list)) }
+    ensures { (texts : List (List ℕ)) → result ≡ (nat_lt before (bound_in (innermost_scope (state_of texts false s.now into.now).scopes)) || has_list (trees_at u.now.forest list)) }
 {
     before < s.bound() || has_list(u, list)
 }
@@ -236,7 +236,7 @@ pub(crate) fn tags_alone(u: &Unit, s: &Scopes, into: &TypedUnit, list: ListId, b
 /// How many names and tags the innermost scope has.
 pub(crate) fn bound(s: &Scopes, into: &TypedUnit) -> u64
     requires { IsOpen into.now s.now }
-    ensures { (texts : List (List ℕ)) → result ≡ bound_in (innermost (state_of texts false s.now into.now).scopes) }
+    ensures { (texts : List (List ℕ)) → result ≡ bound_in (innermost_scope (state_of texts false s.now into.now).scopes) }
 {
     s.bound()
 }

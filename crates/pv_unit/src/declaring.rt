@@ -3,7 +3,7 @@ ghost use Rattle.std.specs.Prelude.{◌≡◌, ◌<◌, ◌&&◌, ◌||◌, not,
 ghost use Rattle.pv_types.specs.Known.{tree};
 ghost use Rattle.pv_types.specs.Compatible.{are_compatible};
 ghost use Rattle.pv_tree.specs.Tables.{optional_at, is_initializer, initializer_at, Is, HasOptional};
-ghost use Rattle.pv_typed.specs.Tables.{whole};
+ghost use Rattle.pv_typed.specs.Tables.{whole_unit};
 ghost use Rattle.pv_check.specs.Raw.{raw_innermost, meaning_if};
 ghost use Rattle.pv_check.specs.Open.{IsOpen, Goes, EntryKnown};
 ghost use Rattle.pv_typed.specs.TypedTree.{is_function};
@@ -254,7 +254,7 @@ fn may_be_typedef(s: &Scopes, into: &mut TypedUnit, name: u32, t: TypeId) -> Res
     requires known { t.0 < length into.old.known.terms }
     ensures opened { OnOk result (IsOpen into.new s.now) }
     ensures goes { OnOk result (Goes into.old into.new) }
-    ensures whole { OnOk result (whole into.new ≡ whole into.old) }
+    ensures whole { OnOk result (whole_unit into.new ≡ whole_unit into.old) }
     ensures answer { IfOk result (λ b. b ≡ not (named_main into.old.names (unit_name name) && not (is_function (tree into.old.known t.0) && are_compatible (tree into.old.known t.0) main_type))) }
 {
     if !is_main(into, name) {

@@ -1,7 +1,7 @@
 //! Objects and functions with declarations at file scope, in the order of their first ones (C17 6.9).
 ghost use Rattle.std.specs.Prelude.{◌≡◌, ◌<◌, ◌||◌, ◌++◌, ◌∷◌, [], true, false, length, map, slice_index_or, IfSome, OnErr, OnOk};
 ghost use Rattle.pv_check.specs.Scopes.{find};
-ghost use Rattle.pv_unit.specs.Redeclarations.{entity, marked, is_initialized};
+ghost use Rattle.pv_unit.specs.Redeclarations.{entity, entities_after, is_initialized};
 ghost use Rattle.pv_unit.specs.Entering.{entity_of, no_entity};
 ghost use Rattle.pv_unit.specs.Places.{Keeps, defined_in, first_in, initialized_in, noted_in};
 ghost use Rattle.pv_unit.specs.Definitions.{is_defined};
@@ -228,7 +228,7 @@ impl Entities {
         initialized: bool,
         without_size: bool,
     )
-        ensures { self.new ≡ marked function number defined initialized without_size self.old }
+        ensures { self.new ≡ entities_after function number defined initialized without_size self.old }
     {
         let place = self.place(function, number);
         note_at(

@@ -5,7 +5,7 @@ ghost use Rattle.pv_types.specs.Formed.{completions};
 ghost use Rattle.pv_tree.specs.Tables.{Forest, Is, initializer_at, is_initializer};
 ghost use Rattle.pv_typed.specs.Formed.{Grown};
 ghost use Rattle.pv_typed.specs.Known.{AreKnown};
-ghost use Rattle.pv_typed.specs.Tables.{whole};
+ghost use Rattle.pv_typed.specs.Tables.{whole_unit};
 ghost use Rattle.pv_check.specs.Growing.{AreSized};
 ghost use Rattle.pv_check.specs.Kept.{Kept};
 ghost use Rattle.pv_check.specs.Open.{state_of, IsOpen, Goes};
@@ -13,7 +13,7 @@ ghost use Rattle.pv_unit.specs.DeclaredIn.{OpenOn, GoesOn, state_on};
 ghost use Rattle.pv_unit.specs.Giving.{IsGivenIf, given_if, given_in, with_stores};
 ghost use Rattle.pv_unit.specs.Initializers.{is_braces, is_filling};
 ghost use Rattle.pv_unit.specs.InitializerParts.{is_braced};
-ghost use Rattle.pv_unit.specs.Parts.{can_be_initialized, sized};
+ghost use Rattle.pv_unit.specs.Parts.{can_be_initialized, with_size};
 ghost use Rattle.pv_unit.specs.Shapes.{shape_in};
 ghost use Rattle.pv_unit.specs.Stores.{AreStores, FillsIf, stores_in};
 ghost use Rattle.pv_unit.specs.Subobjects.{part_of, HasSpace, IsPart};
@@ -96,7 +96,7 @@ fn sized(into: &mut TypedUnit, t: TypeId, count: u64) -> Result<TypeId, NoMemory
     requires can { can_be_initialized (env into.old.known) (tree into.old.known t.0) ≡ true }
     requires room { HasSpace (env into.old.known) (tree into.old.known t.0) count }
     ensures number { IfOk result (λ r. r.0 < length into.new.known.terms) }
-    ensures tree { IfOk result (λ r. tree into.new.known r.0 ≡ sized (tree into.old.known t.0) count) }
+    ensures tree { IfOk result (λ r. tree into.new.known r.0 ≡ with_size (tree into.old.known t.0) count) }
     ensures kept { OnOk result (Kept into.old into.new) }
 {
     match into.types().view(t) {
@@ -157,7 +157,7 @@ fn stored(into: &mut TypedUnit, o: u32, stores: &[Init]) -> Result<(), NoMemory>
     requires object { o < length into.old.objects }
     requires stores { AreStores into.old stores.now }
     ensures types { OnOk result (into.new.known ≡ into.old.known) }
-    ensures whole { OnOk result (whole into.new ≡ with_stores (whole into.old) o (stores_in into.old stores.now)) }
+    ensures whole { OnOk result (whole_unit into.new ≡ with_stores (whole_unit into.old) o (stores_in into.old stores.now)) }
     ensures grown { OnOk result (Grown into.old into.new) }
 {
     for x in stores {

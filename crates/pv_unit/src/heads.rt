@@ -3,7 +3,7 @@ ghost use Rattle.std.specs.Prelude.{◌≡◌, ◌<◌, ◌&&◌, ◌||◌, not,
 ghost use Rattle.pv_tree.specs.Tables.{Is, HasList, declarator_at, trees_at, is_declarator, is_specifier};
 ghost use Rattle.pv_types.specs.Known.{tree, env};
 ghost use Rattle.pv_types.specs.Layouts.{is_complete_in};
-ghost use Rattle.pv_check.specs.Derivations.{Signature as WholeSignature, derived};
+ghost use Rattle.pv_check.specs.Derivations.{Signature as WholeSignature, derived_type};
 ghost use Rattle.pv_check.specs.Raw.{Raw};
 ghost use Rattle.pv_check.specs.Stepping.{steps_in, AreSteps};
 ghost use Rattle.pv_check.specs.Open.{state_of, IsOpen, Goes};

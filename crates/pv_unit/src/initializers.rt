@@ -5,7 +5,7 @@ ghost use Rattle.pv_types.specs.Formed.{completions};
 ghost use Rattle.pv_types.specs.Layouts.{layout_in, is_complete_in};
 ghost use Rattle.pv_types.specs.Ty.{ArrayOf};
 ghost use Rattle.pv_tree.specs.Tables.{expression_at as expression_of, initializer_at, is_expression, is_initializer, Is};
-ghost use Rattle.pv_types.specs.Sorts.{bare};
+ghost use Rattle.pv_types.specs.Sorts.{bare_type};
 ghost use Rattle.pv_typed.specs.Known.{AreKnown};
 ghost use Rattle.pv_typed.specs.NodeTrees.{expression_at, IsExpression};
 ghost use Rattle.pv_check.specs.Growing.{AreSized, IsType, type_if};
@@ -13,9 +13,9 @@ ghost use Rattle.pv_check.specs.Kept.{Kept, expression_if};
 ghost use Rattle.pv_check.specs.Open.{state_of, IsOpen, Goes};
 ghost use Rattle.pv_check.specs.StringLiterals.{bytes_of_text};
 ghost use Rattle.pv_check.specs.Raw.{Raw};
-ghost use Rattle.pv_check.specs.Values.{assigned};
-ghost use Rattle.pv_unit.specs.Initializers.{single, filled_type, filled_with};
-ghost use Rattle.pv_unit.specs.InitializerParts.{allowed, zero_leaf, zero};
+ghost use Rattle.pv_check.specs.Values.{as_if_assigned};
+ghost use Rattle.pv_unit.specs.Initializers.{single_store, filled_type, filled_with};
+ghost use Rattle.pv_unit.specs.InitializerParts.{is_allowed, zero_leaf, zero};
 ghost use Rattle.pv_unit.specs.Parts.{is_text};
 ghost use Rattle.pv_unit.specs.Stores.{AreStores, FillsIf, stores_if, stores_by};
 ghost use Rattle.pv_unit.specs.Subobjects.{part_of, HasSpaceIf, IsPart, IsInnerIf};
@@ -36,7 +36,7 @@ use pv_types::{NoMemory, Term, TypeId, Types};
 fn allowed(into: &TypedUnit, lasting: bool, a: NodeId) -> bool
     requires known { AreKnown into.now }
     requires node { IsExpression into.now a }
-    ensures { (texts : List (List ℕ)) (s : Raw) → result ≡ allowed values lasting (state_of texts false s into.now) (expression_at into.now a) }
+    ensures { (texts : List (List ℕ)) (s : Raw) → result ≡ is_allowed values lasting (state_of texts false s into.now) (expression_at into.now a) }
 {
     !lasting || constant(into, a).is_some()
 }
@@ -51,7 +51,7 @@ pub(crate) fn assigned(
     requires target { t.0 < length into.old.known.terms }
     requires node { IsExpression into.old a }
     ensures node { IfOk result (λ r. IfSome r (λ v. IsExpression into.new v)) }
-    ensures typed { IfOk result (λ r. expression_if into.new r ≡ assigned (tree into.old.known t.0) (expression_at into.old a)) }
+    ensures typed { IfOk result (λ r. expression_if into.new r ≡ as_if_assigned (tree into.old.known t.0) (expression_at into.old a)) }
     ensures kept { OnOk result (Kept into.old into.new) }
 {
     let null = is_null_constant(into, a);
@@ -74,7 +74,7 @@ fn single(
     requires opened { IsOpen into.old s.old }
     requires part { part.t.0 < length into.old.known.terms }
     requires stores { AreStores into.old out.old.items }
-    ensures typed { IfOk result (λ r. stores_if t.now.texts s.new into.new out.new.items r ≡ stores_by (single values lasting (part_of into.old.known part) (expression_of u.now.forest a)) t.now.texts s.old into.old out.old.items) }
+    ensures typed { IfOk result (λ r. stores_if t.now.texts s.new into.new out.new.items r ≡ stores_by (single_store values lasting (part_of into.old.known part) (expression_of u.now.forest a)) t.now.texts s.old into.old out.old.items) }
     ensures fills { IfOk result (FillsIf into.old into.new s.new out.new.items) }
     ensures one { IfOk result (λ r. IfSome r (λ n. n ≡ 1)) }
 {
@@ -196,7 +196,7 @@ fn filled_type(into: &mut TypedUnit, t: TypeId, count: u64) -> Result<Option<Typ
     requires array { t.0 < length into.old.known.terms }
     requires text { is_text (tree into.old.known t.0) ≡ true }
     ensures number { IfOk result (IsType into.new.known) }
-    ensures tree { IfOk result (λ r. type_if into.new.known r ≡ filled_type (bare (tree into.old.known t.0)) count) }
+    ensures tree { IfOk result (λ r. type_if into.new.known r ≡ filled_type (bare_type (tree into.old.known t.0)) count) }
     ensures kept { OnOk result (Kept into.old into.new) }
 {
     let own = bare(into.types(), t);

@@ -5,7 +5,7 @@ ghost use Rattle.pv_typed.specs.NodeTrees.{statement_at, expression_at, IsExpres
 ghost use Rattle.pv_check.specs.Open.{state_of, IsOpen};
 ghost use Rattle.pv_typed.specs.Constants.{and_then};
 ghost use Rattle.pv_unit.specs.Stated.{Moves, MovesOn};
-ghost use Rattle.pv_unit.specs.Statements.{valued, typed_label, under};
+ghost use Rattle.pv_unit.specs.Statements.{taken_value, typed_label, under};
 ghost use Rattle.pv_unit.specs.StatementParts.{case_label, stands};
 ghost use Rattle.pv_unit.specs.Switching.{label_of, labels_of, key_of, HasKeys, label_if, labels_if, label_behind, labels_behind};
 
@@ -105,7 +105,7 @@ fn constant_label(
     requires node { Is u.now is_expression a }
     requires opened { IsOpen into.old s.old }
     ensures moves { IfOk result (λ r. IfSome r (λ l. Moves into.old s.old into.new s.new)) }
-    ensures typed { IfOk result (λ r. label_if t.now.texts s.new into.new r ≡ and_then (valued (expression_of u.now.forest a) (state_of t.now.texts false s.old into.old)) (case_label kind line)) }
+    ensures typed { IfOk result (λ r. label_if t.now.texts s.new into.new r ≡ and_then (taken_value (expression_of u.now.forest a) (state_of t.now.texts false s.old into.old)) (case_label kind line)) }
 {
     let Some(value) = value_of(u, t, s, into, a)? else {
         return Ok(None);

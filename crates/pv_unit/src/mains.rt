@@ -5,7 +5,7 @@ ghost use Rattle.pv_types.specs.Ty.{IntTy, FunctionTy, NoTys};
 ghost use Rattle.pv_types.specs.Known.{tree};
 ghost use Rattle.pv_types.specs.Formed.{parameters_at};
 ghost use Rattle.pv_types.specs.Compatible.{are_compatible};
-ghost use Rattle.pv_typed.specs.Tables.{whole};
+ghost use Rattle.pv_typed.specs.Tables.{whole_unit};
 ghost use Rattle.pv_typed.specs.Known.{AreKnown};
 ghost use Rattle.pv_check.specs.Growing.{Grows};
 ghost use Rattle.pv_check.specs.Open.{IsOpen, Goes};
@@ -63,7 +63,7 @@ fn main_type_in(alloc: Global, into: &mut TypedUnit) -> Result<TypeId, NoMemory>
     requires known { AreKnown into.old }
     ensures known { IfOk result (λ r. r.0 < length into.new.known.terms) }
     ensures tree { IfOk result (λ r. tree into.new.known r.0 ≡ main_type) }
-    ensures whole { OnOk result (whole into.new ≡ whole into.old) }
+    ensures whole { OnOk result (whole_unit into.new ≡ whole_unit into.old) }
     ensures goes { OnOk result (Goes into.old into.new) }
 {
     let r = main_type(alloc, into.types_mut())?;
@@ -76,7 +76,7 @@ pub(crate) fn is_main_type(s: &Scopes, into: &mut TypedUnit, t: TypeId) -> Resul
     requires known { t.0 < length into.old.known.terms }
     ensures opened { OnOk result (IsOpen into.new s.now) }
     ensures goes { OnOk result (Goes into.old into.new) }
-    ensures whole { OnOk result (whole into.new ≡ whole into.old) }
+    ensures whole { OnOk result (whole_unit into.new ≡ whole_unit into.old) }
     ensures answer { IfOk result (λ b. b ≡ are_compatible (tree into.old.known t.0) main_type) }
 {
     let m = main_type_in(s.allocator(), into)?;

@@ -3,13 +3,13 @@ ghost use Rattle.std.specs.Prelude.{◌≡◌, ◌<◌, ◌+◌, ◌++◌, ◌�
 ghost use Rattle.pv_types.specs.Known.{tree};
 ghost use Rattle.pv_types.specs.Compatible.{are_compatible};
 ghost use Rattle.pv_typed.specs.Known.{AreKnown};
-ghost use Rattle.pv_typed.specs.Tables.{whole};
-ghost use Rattle.pv_check.specs.Composite.{composite};
+ghost use Rattle.pv_typed.specs.Tables.{whole_unit};
+ghost use Rattle.pv_check.specs.Composite.{composite_of};
 ghost use Rattle.pv_check.specs.Open.{state_of, after_nothing, IsOpen, Goes, EntryKnown};
 ghost use Rattle.pv_check.specs.Growing.{type_if};
 ghost use Rattle.pv_check.specs.Raw.{raw_innermost, meaning_if, with_name};
 ghost use Rattle.pv_check.specs.State.{TypedefOf};
-ghost use Rattle.pv_check.specs.Scopes.{find, innermost, bind};
+ghost use Rattle.pv_check.specs.Scopes.{find, innermost_scope, bind};
 ghost use Rattle.pv_unit.specs.Redeclarations.{new_object, new_function, with_object_type, with_function_type};
 ghost use Rattle.pv_unit.specs.RuleParts.{object_composed, function_composed};
 
@@ -35,7 +35,7 @@ pub(crate) fn found(s: &Scopes, into: &TypedUnit, name: u32) -> Option<Entry>
     requires { IsOpen into.now s.now }
     ensures raw { result ≡ find (raw_innermost s.now.scopes).names name }
     ensures known { IfSome result (EntryKnown into.now) }
-    ensures meaning { (texts : List (List ℕ)) (u : Bool) → meaning_if into.now.known result ≡ find (innermost (state_of texts u s.now into.now).scopes).names name }
+    ensures meaning { (texts : List (List ℕ)) (u : Bool) → meaning_if into.now.known result ≡ find (innermost_scope (state_of texts u s.now into.now).scopes).names name }
 {
     s.inner(name)
 }
@@ -182,8 +182,8 @@ fn composite_in(
     requires second { b.0 < length into.old.known.terms }
     requires compatible { IsTrue (are_compatible (tree into.old.known a.0) (tree into.old.known b.0)) }
     ensures known { IfOk result (λ r. r.0 < length into.new.known.terms) }
-    ensures tree { IfOk result (λ r. tree into.new.known r.0 ≡ composite (tree into.old.known a.0) (tree into.old.known b.0)) }
-    ensures whole { OnOk result (whole into.new ≡ whole into.old) }
+    ensures tree { IfOk result (λ r. tree into.new.known r.0 ≡ composite_of (tree into.old.known a.0) (tree into.old.known b.0)) }
+    ensures whole { OnOk result (whole_unit into.new ≡ whole_unit into.old) }
     ensures goes { OnOk result (Goes into.old into.new) }
 {
     let r = composite(alloc, into.types_mut(), a, b)?;
@@ -202,9 +202,9 @@ fn composed(
     requires second { b.0 < length into.old.known.terms }
     ensures opened { OnOk result (IsOpen into.new s.now) }
     ensures goes { OnOk result (Goes into.old into.new) }
-    ensures whole { OnOk result (whole into.new ≡ whole into.old) }
+    ensures whole { OnOk result (whole_unit into.new ≡ whole_unit into.old) }
     ensures known { IfOk result (λ r. IfSome r (λ t. t.0 < length into.new.known.terms)) }
-    ensures tree { IfOk result (λ r. type_if into.new.known r ≡ (if are_compatible (tree into.old.known a.0) (tree into.old.known b.0) then Some (composite (tree into.old.known a.0) (tree into.old.known b.0)) else None)) }
+    ensures tree { IfOk result (λ r. type_if into.new.known r ≡ (if are_compatible (tree into.old.known a.0) (tree into.old.known b.0) then Some (composite_of (tree into.old.known a.0) (tree into.old.known b.0)) else None)) }
 {
     if !into.types().compatible(a, b) {
         return Ok(None);

@@ -2,7 +2,7 @@
 ghost use Rattle.std.specs.Prelude.{◌≡◌, ◌<◌, ◌≤◌, ◌+◌, ◌*◌, ◌^◌, length, IsTrue, is_some, option_map, false, true};
 ghost use Rattle.pv_types.specs.Known.{tree, trees, tree_in, env};
 ghost use Rattle.pv_types.specs.Formed.{members_in, is_union_in, completions, PartsBelow, IsTagged, IsBuilt};
-ghost use Rattle.pv_types.specs.Sorts.{bare, is_scalar};
+ghost use Rattle.pv_types.specs.Sorts.{bare_type, is_scalar};
 ghost use Rattle.pv_types.specs.Layouts.{layout_in, is_complete_in, look};
 ghost use Rattle.pv_types.specs.LayoutParts.{or_none};
 ghost use Rattle.pv_unit.specs.Parts.{is_text, has_element, part_in, part_at, first_leaf};
@@ -28,7 +28,7 @@ pub(crate) struct Subobject {
 /// The outermost layer of the type without the qualifiers around it.
 pub(crate) fn layer(types: &Types, t: TypeId) -> Term
     requires { t.0 < length types.now.terms }
-    ensures tree { bare (tree types.now t.0) ≡ tree_in types.now.lists (trees types.now) result }
+    ensures tree { bare_type (tree types.now t.0) ≡ tree_in types.now.lists (trees types.now) result }
     ensures earlier { PartsBelow types.now.lists (length types.now.terms) result }
     ensures tagged { IsTagged types.now.tags result }
     ensures built { IsBuilt types.now }
@@ -39,7 +39,7 @@ pub(crate) fn layer(types: &Types, t: TypeId) -> Term
 /// The same of a type, qualifiers aside.
 fn is_character(types: &Types, t: TypeId) -> bool
     requires { t.0 < length types.now.terms }
-    ensures { result ≡ character_layer (bare (tree types.now t.0)) }
+    ensures { result ≡ character_layer (bare_type (tree types.now t.0)) }
 {
     match layer(types, t) {
         Term::Int(kind) => is_character_kind(kind),

@@ -3,7 +3,7 @@ ghost use Rattle.std.specs.Prelude.{◌≡◌, ◌<◌, length, IfOk, OnOk};
 ghost use Rattle.pv_types.specs.Known.{tree};
 ghost use Rattle.pv_types.specs.Compatible.{are_compatible};
 ghost use Rattle.pv_typed.specs.Known.{AreKnown};
-ghost use Rattle.pv_typed.specs.Tables.{whole};
+ghost use Rattle.pv_typed.specs.Tables.{whole_unit};
 ghost use Rattle.pv_typed.specs.TypedUnits.{name_at};
 ghost use Rattle.pv_library.specs.LibraryNames.{library_named};
 ghost use Rattle.pv_check.specs.Open.{IsOpen, Goes};
@@ -24,7 +24,7 @@ fn prototype_in(alloc: Global, into: &mut TypedUnit, f: Library) -> Result<TypeI
     requires known { AreKnown into.old }
     ensures known { IfOk result (λ r. r.0 < length into.new.known.terms) }
     ensures tree { IfOk result (λ r. tree into.new.known r.0 ≡ prototype f) }
-    ensures whole { OnOk result (whole into.new ≡ whole into.old) }
+    ensures whole { OnOk result (whole_unit into.new ≡ whole_unit into.old) }
     ensures goes { OnOk result (Goes into.old into.new) }
 {
     let r = prototype(alloc, into.types_mut(), f)?;
@@ -37,7 +37,7 @@ fn has_prototype(s: &Scopes, into: &mut TypedUnit, f: Library, t: TypeId) -> Res
     requires known { t.0 < length into.old.known.terms }
     ensures opened { OnOk result (IsOpen into.new s.now) }
     ensures goes { OnOk result (Goes into.old into.new) }
-    ensures whole { OnOk result (whole into.new ≡ whole into.old) }
+    ensures whole { OnOk result (whole_unit into.new ≡ whole_unit into.old) }
     ensures answer { IfOk result (λ b. b ≡ are_compatible (tree into.old.known t.0) (prototype f)) }
 {
     let p = prototype_in(s.allocator(), into, f)?;
@@ -55,8 +55,8 @@ pub(crate) fn agrees(
     requires known { t.0 < length into.old.known.terms }
     ensures opened { OnOk result (IsOpen into.new s.now) }
     ensures goes { OnOk result (Goes into.old into.new) }
-    ensures whole { OnOk result (whole into.new ≡ whole into.old) }
-    ensures answer { IfOk result (λ b. b ≡ agrees (library_named (name_at (whole into.old) (unit_name name))) (tree into.old.known t.0)) }
+    ensures whole { OnOk result (whole_unit into.new ≡ whole_unit into.old) }
+    ensures answer { IfOk result (λ b. b ≡ agrees (library_named (name_at (whole_unit into.old) (unit_name name))) (tree into.old.known t.0)) }
 {
     match library_of(into, name) {
         Some(f) => has_prototype(s, into, f, t),

@@ -4,13 +4,13 @@ ghost use Rattle.std.specs.Cmp.Lexicographic.{pointwise};
 ghost use Rattle.pv_typed.specs.Formed.{Grown};
 ghost use Rattle.pv_typed.specs.Known.{AreKnown};
 ghost use Rattle.pv_typed.specs.Mains.{main_text};
-ghost use Rattle.pv_typed.specs.Tables.{whole};
+ghost use Rattle.pv_typed.specs.Tables.{whole_unit};
 ghost use Rattle.pv_typed.specs.TypedUnits.{object_at, function_at};
 ghost use Rattle.pv_check.specs.Open.{state_of, IsOpen};
 ghost use Rattle.pv_check.specs.Raw.{Raw, used_of};
 ghost use Rattle.pv_unit.specs.Entering.{entity_of};
 ghost use Rattle.pv_unit.specs.Resolving.{has_use, AreUses, ArePointed, placed_if};
-ghost use Rattle.pv_unit.specs.Units.{uses, is_unresolved, unresolved, has_main, statics_from, points, placed_from, with_statics, with_placed};
+ghost use Rattle.pv_unit.specs.Units.{uses, is_unresolved, first_unresolved, has_main, statics_from, points, placed_from, with_statics, with_placed};
 ghost use Rattle.pv_unit.specs.Definitions.{is_defined};
 ghost use Rattle.pv_unit.specs.UnitParts.{is_of_library, is_main_function, is_used, is_pointed};
 ghost use Rattle.std.specs.List.{list_any};
@@ -84,7 +84,7 @@ pub(crate) fn unresolved(
     into: &TypedUnit,
     outer: &Outer,
 ) -> Result<Option<u32>, NoMemory>
-    ensures { IfOk result (λ r. (texts : List (List ℕ)) → r ≡ unresolved (state_of texts false s.now into.now) outer.now.entities) }
+    ensures { IfOk result (λ r. (texts : List (List ℕ)) → r ≡ first_unresolved (state_of texts false s.now into.now) outer.now.entities) }
 {
     let all = uses_of(s.allocator(), s.used())?;
     for i in 0..outer.entities.len() {
@@ -107,7 +107,7 @@ fn is_main(text: &[u8]) -> bool
 fn is_main_function(into: &TypedUnit, f: u32) -> bool
     requires known { AreKnown into.now }
     requires function { f < length into.now.functions }
-    ensures { result ≡ is_main_function into.now.names (function_at (whole into.now) f) }
+    ensures { result ≡ is_main_function into.now.names (function_at (whole_unit into.now) f) }
 {
     let function = into.function(f);
     function.body.is_some() && is_main(into.names().text(function.name))
@@ -116,7 +116,7 @@ fn is_main_function(into: &TypedUnit, f: u32) -> bool
 /// Whether `main` is defined.
 pub(crate) fn has_main(into: &TypedUnit) -> bool
     requires known { AreKnown into.now }
-    ensures { result ≡ has_main (whole into.now) }
+    ensures { result ≡ has_main (whole_unit into.now) }
 {
     for f in 0..into.functions() {
         if is_main_function(into, f) {
@@ -129,7 +129,7 @@ pub(crate) fn has_main(into: &TypedUnit) -> bool
 /// Whether an object has static storage and is defined.
 fn is_static(into: &TypedUnit, outer: &Outer, o: u32) -> bool
     requires { o < length into.now.objects }
-    ensures { result ≡ ((object_at (whole into.now) o).lasting && is_defined o outer.now.entities) }
+    ensures { result ≡ ((object_at (whole_unit into.now) o).lasting && is_defined o outer.now.entities) }
 {
     into.object(o).lasting && outer.entities.is_defined(o)
 }
@@ -138,7 +138,7 @@ fn is_static(into: &TypedUnit, outer: &Outer, o: u32) -> bool
 pub(crate) fn add_statics(into: &mut TypedUnit, outer: &Outer) -> Result<(), NoMemory>
     ensures types { OnOk result (into.new.known ≡ into.old.known) }
     ensures grown { OnOk result (Grown into.old into.new) }
-    ensures whole { OnOk result (whole into.new ≡ with_statics (statics_from outer.now.entities 0 (whole into.old).objects) (whole into.old)) }
+    ensures whole { OnOk result (whole_unit into.new ≡ with_statics (statics_from outer.now.entities 0 (whole_unit into.old).objects) (whole_unit into.old)) }
 {
     for o in 0..into.objects() {
         if is_static(into, outer, o) {
@@ -176,7 +176,7 @@ fn pointed_in(alloc: Global, used: &[Named]) -> Result<IndexSet<u32>, NoMemory>
 fn is_placed(s: &Scopes, into: &TypedUnit, all: &IndexSet<u32>, f: u32) -> bool
     requires pointed { ArePointed s.now.used all.now.keys }
     requires function { f < length into.now.functions }
-    ensures { result ≡ (is_some (function_at (whole into.now) f).body && is_pointed f (map used_of s.now.used)) }
+    ensures { result ≡ (is_some (function_at (whole_unit into.now) f).body && is_pointed f (map used_of s.now.used)) }
 {
     into.function(f).body.is_some() && all.contains(&f)
 }
@@ -187,7 +187,7 @@ fn place_one(s: &Scopes, into: &mut TypedUnit, all: &IndexSet<u32>, f: u32) -> R
     requires function { f < length into.old.functions }
     ensures types { OnOk result (into.new.known ≡ into.old.known) }
     ensures grown { OnOk result (Grown into.old into.new) }
-    ensures whole { OnOk result (whole into.new ≡ placed_if (is_some (function_at (whole into.old) f).body && is_pointed f (map used_of s.now.used)) f (whole into.old)) }
+    ensures whole { OnOk result (whole_unit into.new ≡ placed_if (is_some (function_at (whole_unit into.old) f).body && is_pointed f (map used_of s.now.used)) f (whole_unit into.old)) }
 {
     if !is_placed(s, into, all, f) {
         return Ok(());
@@ -199,7 +199,7 @@ fn place_one(s: &Scopes, into: &mut TypedUnit, all: &IndexSet<u32>, f: u32) -> R
 pub(crate) fn add_placed(s: &Scopes, into: &mut TypedUnit) -> Result<(), NoMemory>
     ensures types { OnOk result (into.new.known ≡ into.old.known) }
     ensures grown { OnOk result (Grown into.old into.new) }
-    ensures whole { OnOk result (whole into.new ≡ with_placed (placed_from (map used_of s.now.used) 0 (whole into.old).functions) (whole into.old)) }
+    ensures whole { OnOk result (whole_unit into.new ≡ with_placed (placed_from (map used_of s.now.used) 0 (whole_unit into.old).functions) (whole_unit into.old)) }
 {
     let all = pointed_in(s.allocator(), s.used())?;
     for f in 0..into.functions() {

@@ -10,9 +10,9 @@ ghost use Rattle.pv_check.specs.Open.{state_of, IsOpen};
 ghost use Rattle.pv_types.specs.Sorts.{kind_of, is_scalar};
 ghost use Rattle.pv_check.specs.State.{give};
 ghost use Rattle.pv_typed.specs.Constants.{and_then};
-ghost use Rattle.pv_check.specs.Values.{assigned, promoted_value};
+ghost use Rattle.pv_check.specs.Values.{as_if_assigned, promoted_value};
 ghost use Rattle.pv_unit.specs.Stated.{stated_if, optional_if, IsOptional, Moves, value_in};
-ghost use Rattle.pv_unit.specs.Statements.{valued, condition, optional, switched};
+ghost use Rattle.pv_unit.specs.Statements.{taken_value, condition, expression_if_any, switch_value};
 ghost use Rattle.pv_unit.specs.StatementParts.{nothing_returned, value_returned, switched_by};
 ghost use Rattle.pv_unit.specs.Switching.{switched_if, IsLabelledIf, IsBlockIf};
 
@@ -36,7 +36,7 @@ pub(crate) fn value_of(
     requires opened { IsOpen into.old s.old }
     ensures there { IfOk result (λ r. IfSome r (IsExpression into.new)) }
     ensures moves { IfOk result (λ r. IfSome r (λ n. Moves into.old s.old into.new s.new)) }
-    ensures typed { IfOk result (λ r. after_node t.now.texts false s.new into.new r ≡ valued (expression_of u.now.forest a) (state_of t.now.texts false s.old into.old)) }
+    ensures typed { IfOk result (λ r. after_node t.now.texts false s.new into.new r ≡ taken_value (expression_of u.now.forest a) (state_of t.now.texts false s.old into.old)) }
 {
     let r = operand(s, u, t, a, false, into)?;
     Ok(r)
@@ -87,7 +87,7 @@ pub(crate) fn optional_value(
     requires opened { IsOpen into.old s.old }
     ensures there { IfOk result (λ r. IfSome r (IsOptional into.new)) }
     ensures moves { IfOk result (λ r. IfSome r (λ n. Moves into.old s.old into.new s.new)) }
-    ensures typed { IfOk result (λ r. optional_if t.now.texts s.new into.new r ≡ optional valued (optional_at u.now.forest a) (state_of t.now.texts false s.old into.old)) }
+    ensures typed { IfOk result (λ r. optional_if t.now.texts s.new into.new r ≡ expression_if_any taken_value (optional_at u.now.forest a) (state_of t.now.texts false s.old into.old)) }
 {
     let Some(node) = a else {
         return Ok(Some(None));
@@ -110,7 +110,7 @@ pub(crate) fn optional_condition(
     requires opened { IsOpen into.old s.old }
     ensures there { IfOk result (λ r. IfSome r (IsOptional into.new)) }
     ensures moves { IfOk result (λ r. IfSome r (λ n. Moves into.old s.old into.new s.new)) }
-    ensures typed { IfOk result (λ r. optional_if t.now.texts s.new into.new r ≡ optional condition (optional_at u.now.forest a) (state_of t.now.texts false s.old into.old)) }
+    ensures typed { IfOk result (λ r. optional_if t.now.texts s.new into.new r ≡ expression_if_any condition (optional_at u.now.forest a) (state_of t.now.texts false s.old into.old)) }
 {
     let Some(node) = a else {
         return Ok(Some(None));
@@ -134,7 +134,7 @@ fn assigned(
     ensures there { IfOk result (λ r. IfSome r (IsExpression into.new)) }
     ensures moves { OnOk result (Moves into.old s.now into.new s.now) }
     ensures state { OnOk result ((texts : List (List ℕ)) → state_of texts false s.now into.new ≡ state_of texts false s.now into.old) }
-    ensures typed { IfOk result (λ r. expression_if into.new r ≡ assigned (tree into.old.known wanted.0) (expression_at into.old a)) }
+    ensures typed { IfOk result (λ r. expression_if into.new r ≡ as_if_assigned (tree into.old.known wanted.0) (expression_at into.old a)) }
 {
     let null = is_null_constant(into, a);
     let r = assigned_as(into, wanted, a, null)?;
@@ -202,7 +202,7 @@ pub(crate) fn value_returned(
     requires known { returned.0 < length into.old.known.terms }
     ensures there { IfOk result (λ r. IfSome r (IsStatement into.new)) }
     ensures moves { IfOk result (λ r. IfSome r (λ n. Moves into.old s.old into.new s.new)) }
-    ensures typed { IfOk result (λ r. stated_if t.now.texts s.new into.new r ≡ and_then (valued (expression_of u.now.forest a) (state_of t.now.texts false s.old into.old)) (value_returned (tree into.old.known returned.0) line)) }
+    ensures typed { IfOk result (λ r. stated_if t.now.texts s.new into.new r ≡ and_then (taken_value (expression_of u.now.forest a) (state_of t.now.texts false s.old into.old)) (value_returned (tree into.old.known returned.0) line)) }
 {
     let Some(value) = value_of(u, t, s, into, a)? else {
         return Ok(None);
@@ -250,7 +250,7 @@ pub(crate) fn switched(
     requires opened { IsOpen into.old s.old }
     ensures there { IfOk result (λ r. IfSome r (λ x. IsExpression into.new x.value)) }
     ensures moves { IfOk result (λ r. IfSome r (λ x. Moves into.old s.old into.new s.new)) }
-    ensures typed { IfOk result (λ r. switched_if t.now.texts s.new into.new r ≡ switched (expression_of u.now.forest a) (state_of t.now.texts false s.old into.old)) }
+    ensures typed { IfOk result (λ r. switched_if t.now.texts s.new into.new r ≡ switch_value (expression_of u.now.forest a) (state_of t.now.texts false s.old into.old)) }
 {
     let Some(found) = value_of(u, t, s, into, a)? else {
         return Ok(None);

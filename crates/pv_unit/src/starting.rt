@@ -1,7 +1,7 @@
 //! The tables and the scopes before the first declaration of a unit.
 ghost use Rattle.std.specs.Prelude.{◌≡◌, ◌∷◌, [], IfOk, OnOk};
 ghost use Rattle.pv_typed.specs.Formed.{Grown};
-ghost use Rattle.pv_typed.specs.Tables.{whole};
+ghost use Rattle.pv_typed.specs.Tables.{whole_unit};
 ghost use Rattle.pv_check.specs.Raw.{no_raw};
 ghost use Rattle.pv_unit.specs.Starting.{with_name_behind, IsFirst};
 
@@ -14,7 +14,7 @@ use std::alloc::Global;
 /// Adds a name behind the others. One that is there already gives want of memory: the names of tokens differ, and none
 /// begins with `@`.
 fn add_name(into: &mut TypedUnit, text: &[u8]) -> Result<(), NoMemory>
-    ensures names { OnOk result (whole into.new ≡ with_name_behind (whole into.old) text.now) }
+    ensures names { OnOk result (whole_unit into.new ≡ with_name_behind (whole_unit into.old) text.now) }
     ensures types { OnOk result (into.new.known ≡ into.old.known) }
     ensures grown { OnOk result (Grown into.old into.new) }
 {

@@ -6,7 +6,7 @@ ghost use Rattle.pv_tree.specs.TreeLines.{tree_line};
 ghost use Rattle.pv_typed.specs.NodeTrees.{statement_at, IsStatement};
 ghost use Rattle.pv_check.specs.Open.{state_of, IsOpen};
 ghost use Rattle.pv_unit.specs.TypedStatements.{typed_statement, typed_items, typed_item, switch_block};
-ghost use Rattle.pv_unit.specs.Scoped.{inner, scoped, has_scope, switch_body};
+ghost use Rattle.pv_unit.specs.Scoped.{inner, scoped_statement, has_scope, switch_body};
 ghost use Rattle.pv_unit.specs.Stated.{around_in, stated_if, items_in, items_if, AreStatements, StatementsOn, Moves, MovesOn};
 ghost use Rattle.pv_unit.specs.Switching.{labels_of, HasKeys, body_in, body_if, marked_if};
 ghost use Rattle.pv_unit.specs.AtNodes.{IsFor, IsForDeclaration, labelled_statement_at, switch_item_at, switch_items_at};
@@ -72,7 +72,7 @@ fn if_statement(
     requires known { w.result.0 < length into.old.known.terms }
     ensures there { IfOk result (λ r. IfSome r (IsStatement into.new)) }
     ensures moves { IfOk result (λ r. IfSome r (λ n. Moves into.old s.old into.new s.new)) }
-    ensures typed { IfOk result (λ r. stated_if t.now.texts s.new into.new r ≡ scoped (around_in into.old.known w) (statement_of u.now.forest n) (state_of t.now.texts false s.old into.old)) }
+    ensures typed { IfOk result (λ r. stated_if t.now.texts s.new into.new r ≡ scoped_statement (around_in into.old.known w) (statement_of u.now.forest n) (state_of t.now.texts false s.old into.old)) }
 {
     let Some(value) = condition(u, t, s, into, a)? else {
         return Ok(None);
@@ -106,7 +106,7 @@ fn else_statement(
     requires known { w.result.0 < length into.old.known.terms }
     ensures there { IfOk result (λ r. IfSome r (IsStatement into.new)) }
     ensures moves { IfOk result (λ r. IfSome r (λ n. Moves into.old s.old into.new s.new)) }
-    ensures typed { IfOk result (λ r. stated_if t.now.texts s.new into.new r ≡ scoped (around_in into.old.known w) (statement_of u.now.forest n) (state_of t.now.texts false s.old into.old)) }
+    ensures typed { IfOk result (λ r. stated_if t.now.texts s.new into.new r ≡ scoped_statement (around_in into.old.known w) (statement_of u.now.forest n) (state_of t.now.texts false s.old into.old)) }
 {
     let Some(value) = condition(u, t, s, into, a)? else {
         return Ok(None);
@@ -147,7 +147,7 @@ fn while_statement(
     requires known { w.result.0 < length into.old.known.terms }
     ensures there { IfOk result (λ r. IfSome r (IsStatement into.new)) }
     ensures moves { IfOk result (λ r. IfSome r (λ n. Moves into.old s.old into.new s.new)) }
-    ensures typed { IfOk result (λ r. stated_if t.now.texts s.new into.new r ≡ scoped (around_in into.old.known w) (statement_of u.now.forest n) (state_of t.now.texts false s.old into.old)) }
+    ensures typed { IfOk result (λ r. stated_if t.now.texts s.new into.new r ≡ scoped_statement (around_in into.old.known w) (statement_of u.now.forest n) (state_of t.now.texts false s.old into.old)) }
 {
     let Some(value) = condition(u, t, s, into, a)? else {
         return Ok(None);
@@ -184,7 +184,7 @@ fn do_statement(
     requires known { w.result.0 < length into.old.known.terms }
     ensures there { IfOk result (λ r. IfSome r (IsStatement into.new)) }
     ensures moves { IfOk result (λ r. IfSome r (λ n. Moves into.old s.old into.new s.new)) }
-    ensures typed { IfOk result (λ r. stated_if t.now.texts s.new into.new r ≡ scoped (around_in into.old.known w) (statement_of u.now.forest n) (state_of t.now.texts false s.old into.old)) }
+    ensures typed { IfOk result (λ r. stated_if t.now.texts s.new into.new r ≡ scoped_statement (around_in into.old.known w) (statement_of u.now.forest n) (state_of t.now.texts false s.old into.old)) }
 {
     let around = Place {
         result: w.result,
@@ -225,7 +225,7 @@ fn for_statement(
     requires known { w.result.0 < length into.old.known.terms }
     ensures there { IfOk result (λ r. IfSome r (IsStatement into.new)) }
     ensures moves { IfOk result (λ r. IfSome r (λ n. Moves into.old s.old into.new s.new)) }
-    ensures typed { IfOk result (λ r. stated_if t.now.texts s.new into.new r ≡ scoped (around_in into.old.known w) (statement_of u.now.forest n) (state_of t.now.texts false s.old into.old)) }
+    ensures typed { IfOk result (λ r. stated_if t.now.texts s.new into.new r ≡ scoped_statement (around_in into.old.known w) (statement_of u.now.forest n) (state_of t.now.texts false s.old into.old)) }
 {
     let Some(begin) = optional_value(u, t, s, into, first)? else {
         return Ok(None);
@@ -278,7 +278,7 @@ fn for_declaration(
     requires known { w.result.0 < length into.old.known.terms }
     ensures there { IfOk result (λ r. IfSome r (IsStatement into.new)) }
     ensures moves { IfOk result (λ r. IfSome r (λ n. Moves into.old s.old into.new s.new)) }
-    ensures typed { IfOk result (λ r. stated_if t.now.texts s.new into.new r ≡ scoped (around_in into.old.known w) (statement_of u.now.forest n) (state_of t.now.texts false s.old into.old)) }
+    ensures typed { IfOk result (λ r. stated_if t.now.texts s.new into.new r ≡ scoped_statement (around_in into.old.known w) (statement_of u.now.forest n) (state_of t.now.texts false s.old into.old)) }
 {
     let mut items = Vec::new(s.allocator());
     if !first_declared(u, t, s, into, declaration, &mut items)? {
@@ -320,7 +320,7 @@ fn block_statement(
     requires known { w.result.0 < length into.old.known.terms }
     ensures there { IfOk result (λ r. IfSome r (IsStatement into.new)) }
     ensures moves { IfOk result (λ r. IfSome r (λ n. Moves into.old s.old into.new s.new)) }
-    ensures typed { IfOk result (λ r. stated_if t.now.texts s.new into.new r ≡ scoped (around_in into.old.known w) (statement_of u.now.forest n) (state_of t.now.texts false s.old into.old)) }
+    ensures typed { IfOk result (λ r. stated_if t.now.texts s.new into.new r ≡ scoped_statement (around_in into.old.known w) (statement_of u.now.forest n) (state_of t.now.texts false s.old into.old)) }
 {
     let mut items = Vec::new(s.allocator());
     if !all_items(u, t, s, into, w, n, list, &mut items)? {
@@ -617,7 +617,7 @@ fn switch_statement(
     requires known { w.result.0 < length into.old.known.terms }
     ensures there { IfOk result (λ r. IfSome r (IsStatement into.new)) }
     ensures moves { IfOk result (λ r. IfSome r (λ n. Moves into.old s.old into.new s.new)) }
-    ensures typed { IfOk result (λ r. stated_if t.now.texts s.new into.new r ≡ scoped (around_in into.old.known w) (statement_of u.now.forest n) (state_of t.now.texts false s.old into.old)) }
+    ensures typed { IfOk result (λ r. stated_if t.now.texts s.new into.new r ≡ scoped_statement (around_in into.old.known w) (statement_of u.now.forest n) (state_of t.now.texts false s.old into.old)) }
 {
     let Some(controlling) = switched(u, t, s, into, a)? else {
         return Ok(None);
@@ -650,7 +650,7 @@ fn scoped(
     requires known { w.result.0 < length into.old.known.terms }
     ensures there { IfOk result (λ r. IfSome r (IsStatement into.new)) }
     ensures moves { IfOk result (λ r. IfSome r (λ n. Moves into.old s.old into.new s.new)) }
-    ensures typed { IfOk result (λ r. stated_if t.now.texts s.new into.new r ≡ scoped (around_in into.old.known w) (statement_of u.now.forest n) (state_of t.now.texts false s.old into.old)) }
+    ensures typed { IfOk result (λ r. stated_if t.now.texts s.new into.new r ≡ scoped_statement (around_in into.old.known w) (statement_of u.now.forest n) (state_of t.now.texts false s.old into.old)) }
 {
     match u.stmt(n) {
         Stmt::Block(list) => block_statement(u, t, s, into, w, n, list),

@@ -23,19 +23,19 @@ use Rattle.pv_object.specs.declared.values.Value.{Value}
 use Rattle.pv_object.specs.declared.values.Value.TheVariants.{Int as IntValue, Unset, Pointer as PointerValue}
 use Rattle.pv_object.specs.Memory.{Mem}
 use Rattle.pv_object.specs.Access.{reach}
-use Rattle.pv_object.specs.Creating.{created}
+use Rattle.pv_object.specs.Creating.{creation}
 use Rattle.pv_object.specs.Loading.{Loaded}
-use Rattle.pv_object.specs.Operations.{truth, to_ptr, recast, to_int, code, together, order, equal, shift, select}
+use Rattle.pv_object.specs.Operations.{truth, to_ptr, recast, to_int, code, together, order, pointer_equality, shift, select}
 use Rattle.pv_watch.specs.declared.event.What.{What}
 use Rattle.pv_world.specs.declared.got.Shape.{Shape}
 use Rattle.pv_world.specs.declared.got.Shape.TheVariants as shape
 use Rattle.pv_world.specs.declared.got.How.{How}
 use Rattle.pv_world.specs.declared.got.How.TheVariants.{Rounds, Passes, Tests, Numbers, Points, Recasts, Voids}
 use Rattle.pv_world.specs.Worlds.{Worth, Nothing, Missing, Scalar, Whole, World, Wrong, with_table}
-use Rattle.pv_world.specs.Telling.{Told, quiet, telling, used, both_used, code_test}
+use Rattle.pv_world.specs.Telling.{Told, no_telling, telling, event_of_use, both_used, code_test}
 use Rattle.pv_world.specs.Doing.{Done, Answers, Fails, Breaks}
-use Rattle.pv_world.specs.Worths.{int, truth_int, int_of, pointer_of, unless, unplain, unpresent, computed, bytes_of}
-use Rattle.pv_world.specs.Conversions.{truth_by, truth_value, truth_worth, tests, number_by, pointed, recast_by, passes, converts}
+use Rattle.pv_world.specs.Worths.{int, truth_int, int_of, pointer_of, unless, why_not_set, why_missing, arithmetic_result, bytes_of}
+use Rattle.pv_world.specs.Conversions.{truth_by, truth_value, truth_worth, tests, number_by, pointer_by_number, recast_by, passes, converts}
 use Rattle.pv_world.specs.Calculations.{follows_to}
 use Rattle.pv_world.specs.CalculationParts.{calculates, calculates_one}
 use Rattle.pv_world.specs.Pointers.{moved_by, distance, moves, in_elements, elements_by, between_by, ordered_by, equal_by, equals, found_in, found_by, finds}
@@ -60,11 +60,11 @@ unless-on : (o : Option Wrong) (w : World) (d : Done) → FineIf o → Granted d
 unless-on None w d f h = h
 unless-on (Some y) w d f h = record { fine = f }
 
-pub plain-on : (v : Worth) (w : World) (d : Done) → Granted d → Granted (unless (unplain v) w d)
-plain-on v w d h = unless-on (unplain v) w d (plain-fine v) h
+pub plain-on : (v : Worth) (w : World) (d : Done) → Granted d → Granted (unless (why_not_set v) w d)
+plain-on v w d h = unless-on (why_not_set v) w d (plain-fine v) h
 
-pub present-on : (v : Worth) (w : World) (d : Done) → Granted d → Granted (unless (unpresent v) w d)
-present-on v w d h = unless-on (unpresent v) w d (present-fine v) h
+pub present-on : (v : Worth) (w : World) (d : Done) → Granted d → Granted (unless (why_missing v) w d)
+present-on v w d h = unless-on (why_missing v) w d (present-fine v) h
 
 -- conversions
 truth-by : (w : World) (p : Pointer) (got : Result (Bool × Tried) Stop × Table) (give : Bool → Worth) → Granted (truth_by w p got give)
@@ -89,7 +89,7 @@ number-by : (w : World) (p : Pointer) (got : Result (ℤ × Tried) Stop × Table
 number-by w p ((Ok r), T) = record { fine = tt }
 number-by w p ((Err y), T) = record { fine = stop-fine y }
 
-pointed-on : (w : World) (got : Result Pointer Stop × Table) → Granted (pointed w got)
+pointed-on : (w : World) (got : Result Pointer Stop × Table) → Granted (pointer_by_number w got)
 pointed-on w ((Ok r), T) = record { fine = tt }
 pointed-on w ((Err y), T) = record { fine = stop-fine y }
 
@@ -113,7 +113,7 @@ converts-on (Recasts n) v w = plain-on v w _ (recast-by w (pointer_of v) (recast
 converts-on Voids v w = record { fine = tt }
 
 -- operators on integers
-computed-on : (w : World) (r : Result ℤ ArithmeticFault) → Granted (computed w r)
+computed-on : (w : World) (r : Result ℤ ArithmeticFault) → Granted (arithmetic_result w r)
 computed-on w (Ok n) = record { fine = tt }
 computed-on w (Err f) = record { fine = tt }
 
@@ -147,7 +147,7 @@ found-in w p fits o us = by (fits o)
     by false = record { fine = tt }
 
 found-by : (w : World) (p : Pointer) (fits : Option ℕ → Bool) (got : Result (ℕ × Tried) Stop × Table) → Granted (found_by w p fits got)
-found-by w p fits ((Ok r), T) = found-in (with_table w T) p fits (owner_of w r.0) (used code_test r.1)
+found-by w p fits ((Ok r), T) = found-in (with_table w T) p fits (owner_of w r.0) (event_of_use code_test r.1)
 found-by w p fits ((Err y), T) = record { fine = stop-fine y }
 
 pub finds-on : (fits : Option ℕ → Bool) (v : Worth) (w : World) → Granted (finds fits v w)
@@ -183,7 +183,7 @@ equal-by negated w p q ((Ok r), T) = record { fine = tt }
 equal-by negated w p q ((Err y), T) = record { fine = stop-fine y }
 
 pub equals-on : (negated : Bool) (v x : Worth) (w : World) → Granted (equals negated v x w)
-equals-on negated v x w = plain-on v w _ (plain-on x w _ (equal-by negated w (pointer_of v) (pointer_of x) (equal w.memory.table (pointer_of v) (pointer_of x))))
+equals-on negated v x w = plain-on v w _ (plain-on x w _ (equal-by negated w (pointer_of v) (pointer_of x) (pointer_equality w.memory.table (pointer_of v) (pointer_of x))))
 
 -- accesses
 reaching-by : (w : World) (p : Pointer) (us : List What) (got : Result Reach Stop × Table) (go : Reach → World → Told → Done) → ((at : Reach) (v : World) (t : Told) → Granted (go at v t)) → Granted (reaching_by w p us got go)
@@ -203,7 +203,7 @@ worth-on w bytes shape.Pointer origin p t = scalar-by w bytes shape.Pointer p t 
 worth-on w bytes (shape.Int k) origin p t = scalar-by w bytes (shape.Int k) p t (scalar_as w.memory.table bytes (shape.Int k))
 
 pub takes-on : (offset size : ℕ) (s : Shape) (v : Worth) (w : World) → Granted (takes_bytes offset size s v w)
-takes-on offset size s v w = present-on v w _ (worth-on w (take size (drop offset (bytes_of v))) s None None quiet)
+takes-on offset size s v w = present-on v w _ (worth-on w (take size (drop offset (bytes_of v))) s None None no_telling)
 
 -- instances
 object-made : (w : World) (o : ℕ) (lasting : Bool) (name : ℕ) (got : Result ℕ CreateError × Mem) → FineAnswer got.0 → Granted (object_made w o lasting name got)
@@ -211,19 +211,19 @@ object-made w o true name ((Ok i), M) f = record { fine = tt }
 object-made w o false name ((Ok i), M) f = record { fine = tt }
 object-made w o lasting name ((Err e), M) f = record { fine = f }
 
-pub object-on : (o : ℕ) (lasting : Bool) (r : Request) (w : World) → FineAnswer (created w.memory r).0 → Granted (makes_object o lasting r w)
-object-on o lasting r w f = object-made w o lasting r.name (created w.memory r) f
+pub object-on : (o : ℕ) (lasting : Bool) (r : Request) (w : World) → FineAnswer (creation w.memory r).0 → Granted (makes_object o lasting r w)
+object-on o lasting r w f = object-made w o lasting r.name (creation w.memory r) f
 
 function-made : (w : World) (f name : ℕ) (got : Result ℕ CreateError × Mem) → FineAnswer got.0 → Granted (function_made w f name got)
 function-made w f name ((Ok i), M) h = record { fine = tt }
 function-made w f name ((Err e), M) h = record { fine = h }
 
-pub function-on : (f : ℕ) (r : Request) (w : World) → FineAnswer (created w.memory r).0 → Granted (makes_function f r w)
-function-on f r w h = function-made w f r.name (created w.memory r) h
+pub function-on : (f : ℕ) (r : Request) (w : World) → FineAnswer (creation w.memory r).0 → Granted (makes_function f r w)
+function-on f r w h = function-made w f r.name (creation w.memory r) h
 
 literal-made : (w : World) (l : ℕ) (bytes : List ℕ) (got : Result ℕ CreateError × Mem) → FineAnswer got.0 → Granted (literal_made w l bytes got)
 literal-made w l bytes ((Ok i), M) f = record { fine = tt }
 literal-made w l bytes ((Err e), M) f = record { fine = f }
 
-pub literal-on : (l : ℕ) (text bytes : List ℕ) (w : World) → FineAnswer (created w.memory (literal_request text bytes)).0 → Granted (makes_literal_of l text bytes w)
-literal-on l text bytes w f = literal-made w l bytes (created w.memory (literal_request text bytes)) f
+pub literal-on : (l : ℕ) (text bytes : List ℕ) (w : World) → FineAnswer (creation w.memory (literal_request text bytes)).0 → Granted (makes_literal_of l text bytes w)
+literal-on l text bytes w f = literal-made w l bytes (creation w.memory (literal_request text bytes)) f

@@ -6,19 +6,19 @@ use Rattle.pv_script.specs.Lines.{ScriptLine}
 use Rattle.pv_prov.specs.Names.{twin_at}
 use Rattle.pv_inst.specs.declared.values.CreateError.{CreateError}
 use Rattle.pv_inst.specs.declared.values.CreateError.TheVariants as refusal
-use Rattle.pv_typed.specs.Tables.{Stored, whole}
+use Rattle.pv_typed.specs.Tables.{Stored, whole_unit}
 use Rattle.pv_world.specs.Worlds.{Worth, World, Wrong, ByVerdict, Halts, Exits, Aborts, Refused, SidesEnded}
 use Rattle.pv_world.specs.Telling.{Told}
 use Rattle.pv_world.specs.Doing.{Done, Answers, Fails, Breaks}
 use Rattle.pv_eval.specs.States.{Setting, State, Why, Turns, Unreached, Stopped, Res, Gives, Stops, then_do, spend}
-use Rattle.pv_eval.specs.Acting.{noted, pair_count, by_side, answered, acted}
+use Rattle.pv_eval.specs.Acting.{after_telling, pair_count, by_side, answer_with_sides, after_doing}
 use Rattle.pv_eval.specs.ActingParts.{one_kept, keeps_both}
 use Rattle.pv_eval.specs.Constants.{constant_worth}
 use Rattle.pv_eval.specs.Operations.{Op, Puts, does}
 use Rattle.pv_eval.proofs.Closed.{IsAsked, beside_setting}
 use Rattle.pv_exec.specs.declared.outcome.Outcome.{Outcome}
 use Rattle.pv_exec.specs.declared.outcome.Outcome.TheVariants as outcome
-use Rattle.pv_exec.specs.Run.{setting_of, first, run_of, status_of, refused, stopped}
+use Rattle.pv_exec.specs.Run.{setting_of, initial_state, run_of, status_of, outcome_of_refusal, outcome_of_stop}
 use Rattle.pv_exec.specs.Laws.{run_at}
 use Rattle.pv_exec.proofs.Executed.{WaysIn, even-closed, run-closed}
 use Rattle.pv_exec.proofs.Reaching.{EndFits, run-fits}
@@ -64,13 +64,13 @@ module _ (lines : List ScriptLine) where
   either-ends true r x h g = h
   either-ends false r x h g = g
 
-  answered-ends : (o : Option (List Bool)) (v : Worth) (line : ℕ) (w : World) (t : Told) (s : State) → w.memory.table.script ≡ lines → Ends lines (answered o v line w t s)
+  answered-ends : (o : Option (List Bool)) (v : Worth) (line : ℕ) (w : World) (t : Told) (s : State) → w.memory.table.script ≡ lines → Ends lines (answer_with_sides o v line w t s)
   answered-ends None v line w t s h = h
   answered-ends (Some sides) v line w t s h =
       let o = slice_get sides (pair_count s.world) in
-      either-ends (nat_lt (pair_count s.world) (pair_count w)) (by_side o v line w t s) (Gives v (noted w t s)) (side-ends o v line w t s h) h
+      either-ends (nat_lt (pair_count s.world) (pair_count w)) (by_side o v line w t s) (Gives v (after_telling w t s)) (side-ends o v line w t s h) h
 
-  acted-ends : (b : Setting) (line : ℕ) (d : Done) (s : State) → Says lines s → Onward (OfTables Same) s.world d → Granted d → Ends lines (acted b line d s)
+  acted-ends : (b : Setting) (line : ℕ) (d : Done) (s : State) → Says lines s → Onward (OfTables Same) s.world d → Granted d → Ends lines (after_doing b line d s)
   acted-ends b line (Answers v w t) s h k g = answered-ends b.sides v line w t s (k.leads.script ∙ h)
   acted-ends b line (Fails y p w t) s h k g = g.fine
   acted-ends b line (Breaks y p w t) s h k g = g.fine
@@ -84,7 +84,7 @@ module _ (lines : List ScriptLine) where
   seq-ends (Stops y s) f h g = h
 
   module _ (b : Setting) (own : OwnNames b.unit.names) (denies : DeniesHeap lines) where
-    act-ends : (line : ℕ) (o : Op) → IsAsked b o → Going lines Worth (λ s. acted b line (does b o s.world) s)
+    act-ends : (line : ℕ) (o : Op) → IsAsked b o → Going lines Worth (λ s. after_doing b line (does b o s.world) s)
     act-ends line o is s h = acted-ends b line (does b o s.world) s h (does-on b (scripted (Filled b)) o is s.world) (does-granted b own lines denies o s.world h)
 
     -- each way of making pieces
@@ -103,13 +103,13 @@ module _ (lines : List ScriptLine) where
 
 -- ---- the whole run
 
-run-ends : (u : Stored) (n : ℕ) (sides : Option (List Bool)) (zap : Bool) (lines : List ScriptLine) → OwnNames (whole u).names → DeniesHeap lines → Ends lines (run_at u sides zap lines n)
+run-ends : (u : Stored) (n : ℕ) (sides : Option (List Bool)) (zap : Bool) (lines : List ScriptLine) → OwnNames (whole_unit u).names → DeniesHeap lines → Ends lines (run_at u sides zap lines n)
 unfolding run_of
 run-ends u n sides zap lines own denies =
     let b = setting_of u n sides zap in
-    run-closed b n sides (going lines b own denies) n (even-closed b n sides (going lines b own denies).ways (λ A s h. tt) n) (first lines zap) refl
+    run-closed b n sides (going lines b own denies) n (even-closed b n sides (going lines b own denies).ways (λ A s h. tt) n) (initial_state lines zap) refl
 
-refused-some : (name : ℕ) (e : CreateError) (line : ℕ) → FineError e → (o : Outcome) × (refused name e line ≡ Some o)
+refused-some : (name : ℕ) (e : CreateError) (line : ℕ) → FineError e → (o : Outcome) × (outcome_of_refusal name e line ≡ Some o)
 refused-some name (refusal.Storage live size) line h = (_, refl)
 refused-some name refusal.Denied line h = absurd h
 refused-some name (refusal.Range k address) line h = (_, refl)
@@ -117,7 +117,7 @@ refused-some name (refusal.Misaligned k address) line h = (_, refl)
 refused-some name (refusal.Overlap k address other) line h = (_, refl)
 refused-some name refusal.NoMemory line h = absurd h
 
-stopped-some : (y : Wrong) (line : ℕ) → FineWrong y → (o : Outcome) × (stopped y line ≡ Some o)
+stopped-some : (y : Wrong) (line : ℕ) → FineWrong y → (o : Outcome) × (outcome_of_stop y line ≡ Some o)
 stopped-some (ByVerdict v) line h = (_, refl)
 stopped-some (Halts (Exits n)) line h = (_, refl)
 stopped-some (Halts Aborts) line h = (_, refl)
@@ -131,5 +131,5 @@ outcome-some n j lines (Stops Unreached s) h g = absurd h.1
 outcome-some n j lines (Stops (Stopped y line) s) h g = stopped-some y line g
 
 -- a unit that has one name of allocations, with a script that denies no other request
-pub ends-so : (u : Stored) (n : ℕ) (sides : Option (List Bool)) (zap : Bool) (lines : List ScriptLine) → OwnNames (whole u).names → DeniesHeap lines → HasOutcome (run_at u sides zap lines n)
+pub ends-so : (u : Stored) (n : ℕ) (sides : Option (List Bool)) (zap : Bool) (lines : List ScriptLine) → OwnNames (whole_unit u).names → DeniesHeap lines → HasOutcome (run_at u sides zap lines n)
 ends-so u n sides zap lines own denies = outcome-some n (suc n) lines (run_at u sides zap lines n) (run-fits u n sides zap lines) (run-ends u n sides zap lines own denies)

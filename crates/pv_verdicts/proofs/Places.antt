@@ -10,7 +10,7 @@ use Rattle.pv_script.specs.declared.scripts.ScriptError.{ScriptError}
 use Rattle.pv_script.specs.Lines.{ScriptLine}
 use Rattle.pv_script.specs.Words.{is_name, count_in, address_in, place_in}
 use Rattle.pv_script.specs.Scripts.{says_nothing, said_in, NumberedLine, first_same, unless_same, after_said, after_line, and_then, after_lines, all_said, script_of}
-use Rattle.pv_script.specs.ScriptParts.{said}
+use Rattle.pv_script.specs.ScriptParts.{line_said}
 use Rattle.pv_script.specs.Places.{place_of}
 use Rattle.pv_typed.specs.Mains.{heap_text}
 use Rattle.pv_verdicts.specs.Own.{DeniesHeap}
@@ -87,7 +87,7 @@ answered_if false x y h g = g
 
 line_answered : (n : ℕ) (line : List ℕ) (earlier : List NumberedLine) → AllNumbered earlier → Answered (after_line n line earlier)
 line_answered n line earlier g =
-    answered_if (says_nothing line) (Ok earlier) (after_said (said line) n earlier) g (said_answered (said line) n earlier (said_allots (slice_split (λ b. nat_eq b 32) line)) g)
+    answered_if (says_nothing line) (Ok earlier) (after_said (line_said line) n earlier) g (said_answered (line_said line) n earlier (said_allots (slice_split (λ b. nat_eq b 32) line)) g)
 
 then_answered : (r : Result (List NumberedLine) ScriptError) (f : List NumberedLine → Result (List NumberedLine) ScriptError) → Answered r → ((es : List NumberedLine) → AllNumbered es → Answered (f es)) → Answered (and_then r f)
 then_answered (Err e) f h k = tt

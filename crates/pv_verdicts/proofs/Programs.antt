@@ -7,7 +7,7 @@ use Rattle.pv_tree.specs.Syntax.{DeclarationTree}
 use Rattle.pv_script.specs.Lines.{ScriptLine}
 use Rattle.pv_script.specs.Scripts.{script_of}
 use Rattle.pv_typed.specs.TypedUnits.{WholeUnit}
-use Rattle.pv_typed.specs.Tables.{Stored, whole}
+use Rattle.pv_typed.specs.Tables.{Stored, whole_unit}
 use Rattle.pv_unit.specs.Units as checked
 use Rattle.pv_exec.specs.Laws.{run_at}
 use Rattle.pv_serve.specs.Readings.{Program}
@@ -28,11 +28,11 @@ pub program_own : (source : List ℕ) (unit : WholeUnit) → Comes source (Progr
 program_own source unit comes = let p = program_typed source unit comes in typed_own source p.0 p.1 unit p.2 p.3
 
 pub program_outcome : (source text : List ℕ) (script : List ScriptLine) (u : Stored) (sides : Option (List Bool)) (zap : Bool) (n : ℕ) → IsProgram source u → script_of text ≡ Ok script → HasOutcome (run_at u sides zap script n)
-program_outcome source text script u sides zap n p r = ends-so u n sides zap script (program_own source (whole u) p) (denied_heap text script r)
+program_outcome source text script u sides zap n p r = ends-so u n sides zap script (program_own source (whole_unit u) p) (denied_heap text script r)
 
 -- the same of the unit that a source is, by itself
 pub has_outcome : (source text : List ℕ) (lines : List ScriptLine) (unit : WholeUnit) → Comes source (Program unit) → script_of text ≡ Ok lines
-    → (u : Stored) → whole u ≡ unit → (sides : Option (List Bool)) (zap : Bool) (n : ℕ) → HasOutcome (run_at u sides zap lines n)
+    → (u : Stored) → whole_unit u ≡ unit → (sides : Option (List Bool)) (zap : Bool) (n : ℕ) → HasOutcome (run_at u sides zap lines n)
 has_outcome source text lines unit c r u e sides zap n =
     let p : IsProgram source u = subst (λ (x : WholeUnit). Comes source (Program x)) (sym e) c in
     program_outcome source text lines u sides zap n p r

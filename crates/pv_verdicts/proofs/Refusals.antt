@@ -13,26 +13,26 @@ use Rattle.pv_inst.specs.declared.values.CreateError.TheVariants as refusal
 use Rattle.pv_inst.specs.Table.{Table, live_bytes, count_of}
 use Rattle.pv_inst.specs.Use.{is_heap}
 use Rattle.pv_inst.specs.Placing.{Request, place, place_said, place_at, unless_overlap, first_overlap}
-use Rattle.pv_inst.specs.PlacingParts.{rounded}
+use Rattle.pv_inst.specs.PlacingParts.{multiple_of_16}
 use Rattle.pv_object.specs.declared.values.Asker.TheVariants.{Text}
 use Rattle.pv_object.specs.declared.values.Stop.{Stop}
 use Rattle.pv_object.specs.declared.values.Stop.TheVariants as stop
 use Rattle.pv_object.specs.Memory.{Mem}
 use Rattle.pv_object.specs.Access.{is_null}
-use Rattle.pv_object.specs.Creating.{created, made}
+use Rattle.pv_object.specs.Creating.{creation, with_new_bytes}
 use Rattle.pv_typed.specs.Mains.{heap_text}
 use Rattle.pv_libc.specs.declared.values.Arg.{Arg}
 use Rattle.pv_libc.specs.declared.values.Reply.{Reply}
 use Rattle.pv_libc.specs.declared.values.Reply.TheVariants as reply
-use Rattle.pv_libc.specs.Steps.{Now, Did, next_by, next, reached}
+use Rattle.pv_libc.specs.Steps.{Now, Did, next_by, next, reach_for}
 use Rattle.pv_libc.specs.Characters.{character_at, characters_from, most, string_at}
 use Rattle.pv_libc.specs.Blocks.{share, copy, memset, memcmp}
 use Rattle.pv_libc.specs.Strings.{strlen, compared_from, strcpy}
-use Rattle.pv_libc.specs.Heap.{granted, requested, allocated, malloc, cleared, calloc, block, freed, free, moved, resized, realloc}
+use Rattle.pv_libc.specs.Heap.{grant_of, request_of_bytes, pointer_or_null, malloc, pointer_to_zeros, calloc, block, end_of_block, free, reply_after_move, resize_of, realloc}
 use Rattle.pv_libc.specs.HeapParts.{heap_request}
-use Rattle.pv_libc.specs.Calls.{argument_at, number, size, printed, called_in}
+use Rattle.pv_libc.specs.Calls.{argument_at, number, size, text_of_format, called_in}
 use Rattle.pv_world.specs.Worlds.{Wrong, ByVerdict, Halts, Halt, Exits, Aborts, Refused, SidesEnded, Worth, Nothing, Missing, Scalar, Whole}
-use Rattle.pv_world.specs.Worths.{unplain, unpresent, wrong_of}
+use Rattle.pv_world.specs.Worths.{why_not_set, why_missing, wrong_of}
 use Rattle.pv_object.specs.declared.values.Value.TheVariants.{Int as IntValue, Unset, Pointer as PointerValue}
 use Rattle.pv_verdicts.specs.Own.{DeniesHeap}
 
@@ -68,7 +68,7 @@ pub stop-fine : (y : Stop) → FineWrong (wrong_of y)
 stop-fine (stop.Ends v) = tt
 stop-fine stop.NoMemory = tt
 
-pub plain-fine : (v : Worth) → FineIf (unplain v)
+pub plain-fine : (v : Worth) → FineIf (why_not_set v)
 plain-fine Missing = tt
 plain-fine Nothing = tt
 plain-fine (Whole bs a) = tt
@@ -76,7 +76,7 @@ plain-fine (Scalar Unset) = tt
 plain-fine (Scalar (IntValue n)) = tt
 plain-fine (Scalar (PointerValue p)) = tt
 
-pub present-fine : (v : Worth) → FineIf (unpresent v)
+pub present-fine : (v : Worth) → FineIf (why_missing v)
 present-fine Missing = tt
 present-fine Nothing = tt
 present-fine (Scalar v) = tt
@@ -98,7 +98,7 @@ at-fine T r k base default =
     (answer-if (not (nat_eq (base % r.align) 0)) (Err (refusal.Misaligned k base), T) _ tt (overlap-fine (first_overlap T.instances base r.size) T r k base default))
 
 said-fine : (o : Option Place) (T : Table) (r : Request) (k : ℕ) → (o ≡ Some Null → ⊥) → FineAnswer (place_said o T r k).0
-said-fine None T r k h = at-fine T r k (rounded T.cursor) true
+said-fine None T r k h = at-fine T r k (multiple_of_16 T.cursor) true
 said-fine (Some (At base)) T r k h = at-fine T r k base false
 said-fine (Some Null) T r k h = h refl
 
@@ -112,11 +112,11 @@ place-fine T r e h =
     answer-if (nat_lt (2 ^ 24) (live_bytes T.instances + r.size)) (_, _) (place_said (place_of T.script r.text k) T r k) (storage-fine (is_heap r.kind) (live_bytes T.instances) r.size e)
     (said-fine (place_of T.script r.text k) T r k (h k))
 
-made-fine : (M : Mem) (w : Result ℕ CreateError × Table) → FineAnswer w.0 → FineAnswer (made M w).0
+made-fine : (M : Mem) (w : Result ℕ CreateError × Table) → FineAnswer w.0 → FineAnswer (with_new_bytes M w).0
 made-fine M ((Ok i), U) h = tt
 made-fine M ((Err e), U) h = h
 
-pub created-fine : (lines : List ScriptLine) (M : Mem) (r : Request) → DeniesHeap lines → M.table.script ≡ lines → is_heap r.kind ≡ false → (r.text ≡ heap_text → ⊥) → FineAnswer (created M r).0
+pub created-fine : (lines : List ScriptLine) (M : Mem) (r : Request) → DeniesHeap lines → M.table.script ≡ lines → is_heap r.kind ≡ false → (r.text ≡ heap_text → ⊥) → FineAnswer (creation M r).0
 created-fine lines M r d same e other =
     made-fine M (place M.table r) (place-fine M.table r e (λ k at. other (d r.text k (subst (λ (ls : List ScriptLine). place_of ls r.text k ≡ Some Null) same at))))
 
@@ -165,7 +165,7 @@ reply-if : (b : Bool) (d e : Did Reply) → FineReplied d.answer → FineReplied
 reply-if true d e h g = h
 reply-if false d e h g = g
 
-granted-fine : (S : Now) (o : Result ℕ CreateError × Mem) → Each FineGrant (granted S o).answer
+granted-fine : (S : Now) (o : Result ℕ CreateError × Mem) → Each FineGrant (grant_of S o).answer
 granted-fine S ((Ok i), N) = tt
 granted-fine S ((Err refusal.Denied), N) = tt
 granted-fine S ((Err refusal.NoMemory), N) = tt
@@ -178,45 +178,45 @@ grant-if : (b : Bool) (d e : Did (Result ℕ Reply)) → Each FineGrant d.answer
 grant-if true d e h g = h
 grant-if false d e h g = g
 
-requested-fine : (n : ℕ) (S : Now) → Each FineGrant (requested n S).answer
-requested-fine n S = grant-if (nat_eq n 0) _ (granted S (created S.memory (heap_request n))) tt (granted-fine S (created S.memory (heap_request n)))
+requested-fine : (n : ℕ) (S : Now) → Each FineGrant (request_of_bytes n S).answer
+requested-fine n S = grant-if (nat_eq n 0) _ (grant_of S (creation S.memory (heap_request n))) tt (granted-fine S (creation S.memory (heap_request n)))
 
-allocated-fine : (r : Result ℕ Reply) (S : Now) → FineGrant r → FineReplied (allocated r S).answer
+allocated-fine : (r : Result ℕ Reply) (S : Now) → FineGrant r → FineReplied (pointer_or_null r S).answer
 allocated-fine (Err x) S h = h
 allocated-fine (Ok i) S h = tt
 
 malloc-fine : (n : ℕ) (S : Now) → FineReplied (malloc n S).answer
-malloc-fine n S = next-fine FineGrant (requested n S) allocated (requested-fine n S) (λ r T h. allocated-fine r T h)
+malloc-fine n S = next-fine FineGrant (request_of_bytes n S) pointer_or_null (requested-fine n S) (λ r T h. allocated-fine r T h)
 
-cleared-fine : (r : Result ℕ Reply) (S : Now) → FineGrant r → FineReplied (cleared r S).answer
+cleared-fine : (r : Result ℕ Reply) (S : Now) → FineGrant r → FineReplied (pointer_to_zeros r S).answer
 cleared-fine (Err x) S h = h
 cleared-fine (Ok i) S h = tt
 
 calloc-fine : (count n : ℕ) (S : Now) → FineReplied (calloc count n S).answer
-calloc-fine count n S = next-fine FineGrant (requested (count * n) S) cleared (requested-fine (count * n) S) (λ r T h. cleared-fine r T h)
+calloc-fine count n S = next-fine FineGrant (request_of_bytes (count * n) S) pointer_to_zeros (requested-fine (count * n) S) (λ r T h. cleared-fine r T h)
 
 free-fine : (g : _) (S : Now) → FineReplied (free g S).answer
-free-fine g S = reply-if (is_null g.pointer) _ _ tt (then-fine (block clause.Freeing g S) freed (λ i T. tt))
+free-fine g S = reply-if (is_null g.pointer) _ _ tt (then-fine (block clause.Freeing g S) end_of_block (λ i T. tt))
 
-moved-fine : (i : ℕ) (r : Result ℕ Reply) (S : Now) → FineGrant r → FineReplied (moved i r S).answer
+moved-fine : (i : ℕ) (r : Result ℕ Reply) (S : Now) → FineGrant r → FineReplied (reply_after_move i r S).answer
 moved-fine i (Err x) S h = h
 moved-fine i (Ok j) S h = tt
 
-resized-fine : (n i : ℕ) (S : Now) → FineReplied (resized n i S).answer
-resized-fine n i S = reply-if (nat_eq n 0) _ _ tt (next-fine FineGrant (requested n S) (moved i) (requested-fine n S) (λ r T h. moved-fine i r T h))
+resized-fine : (n i : ℕ) (S : Now) → FineReplied (resize_of n i S).answer
+resized-fine n i S = reply-if (nat_eq n 0) _ _ tt (next-fine FineGrant (request_of_bytes n S) (reply_after_move i) (requested-fine n S) (λ r T h. moved-fine i r T h))
 
 realloc-fine : (g : _) (n : ℕ) (S : Now) → FineReplied (realloc g n S).answer
-realloc-fine g n S = reply-if (is_null g.pointer) _ _ (malloc-fine n S) (then-fine (block clause.Reallocating g S) (resized n) (λ i T. resized-fine n i T))
+realloc-fine g n S = reply-if (is_null g.pointer) _ _ (malloc-fine n S) (then-fine (block clause.Reallocating g S) (resize_of n) (λ i T. resized-fine n i T))
 
 copy-fine : (apart : Bool) (to from : _) (n : ℕ) (S : Now) → FineReplied (copy apart to from n S).answer
-copy-fine apart to from n S = then-fine (reached Text true to n S) _ (λ t T. then-fine (reached Text false from n T) _ (λ f U. reply-if (apart && share to.pointer.address from.pointer.address n) _ _ tt tt))
+copy-fine apart to from n S = then-fine (reach_for Text true to n S) _ (λ t T. then-fine (reach_for Text false from n T) _ (λ f U. reply-if (apart && share to.pointer.address from.pointer.address n) _ _ tt tt))
 
 memset-fine : (g : _) (c : ℤ) (n : ℕ) (S : Now) → FineReplied (memset g c n S).answer
-memset-fine g c n S = then-fine (reached Text true g n S) _ (λ r T. tt)
+memset-fine g c n S = then-fine (reach_for Text true g n S) _ (λ r T. tt)
 
 memcmp-fine : (p q : _) (n : ℕ) (S : Now) → FineReplied (memcmp p q n S).answer
 memcmp-fine p q n S =
-    then-fine (reached Text false p n S) _ (λ l T. then-fine (reached Text false q n T) _ (λ r U.
+    then-fine (reach_for Text false p n S) _ (λ l T. then-fine (reach_for Text false q n T) _ (λ r U.
     then-fine (characters_from n p l.address [] U) _ (λ ls V. then-fine (characters_from n q r.address [] V) _ (λ rs W. tt))))
 
 strlen-fine : (g : _) (S : Now) → FineReplied (strlen g S).answer
@@ -230,7 +230,7 @@ compared-fine (suc k) p q i S =
 
 strcpy-fine : (to from : _) (S : Now) → FineReplied (strcpy to from S).answer
 strcpy-fine to from S =
-    then-fine (string_at Text from S) _ (λ s T. then-fine (reached Text true to (length s + 1) T) _
+    then-fine (string_at Text from S) _ (λ s T. then-fine (reach_for Text true to (length s + 1) T) _
     (λ t U. reply-if (share to.pointer.address from.pointer.address (length s + 1)) _ _ tt tt))
 
 -- no call replies that a request was denied: it answers a null pointer then
@@ -248,4 +248,4 @@ called-fine library.Strcmp a S = compared-fine most (argument_at a 0 S.memory) (
 called-fine library.Strcpy a S = strcpy-fine (argument_at a 0 S.memory) (argument_at a 1 S.memory) S
 called-fine library.Exit a S = tt
 called-fine library.Abort a S = tt
-called-fine library.Printf a S = then-fine (printed a S) _ (λ text T. tt)
+called-fine library.Printf a S = then-fine (text_of_format a S) _ (λ text T. tt)

@@ -7,7 +7,7 @@ use Rattle.pv_script.specs.Names.{name_at as text_of}
 use Rattle.pv_object.specs.declared.values.Pointer.{Pointer}
 use Rattle.pv_object.specs.declared.values.Reach.{Reach}
 use Rattle.pv_object.specs.declared.values.Stop.{Stop}
-use Rattle.pv_shadow.specs.Bytes.{read}
+use Rattle.pv_shadow.specs.Bytes.{bytes_from}
 use Rattle.pv_typed.specs.Mains.{heap_text}
 use Rattle.pv_typed.specs.TypedUnits.{TypedObject, TypedFunction, object_at, function_at, literal_at}
 use Rattle.pv_seq.specs.Sequencing.{Access, conflicts}
@@ -15,7 +15,7 @@ use Rattle.pv_libc.specs.declared.values.Arg.{Arg}
 use Rattle.pv_libc.specs.declared.values.Reply.{Reply}
 use Rattle.pv_libc.specs.declared.values.Reply.TheVariants as reply
 use Rattle.pv_libc.specs.Steps.{Now}
-use Rattle.pv_libc.specs.Calls.{called, output}
+use Rattle.pv_libc.specs.Calls.{reply_to_call, output}
 use Rattle.pv_world.specs.Worlds.{Worth, World}
 use Rattle.pv_world.specs.Worths.{truth_int, pointer_of}
 use Rattle.pv_world.specs.Conversions.{opposite}
@@ -31,7 +31,7 @@ use Rattle.pv_eval.specs.Accesses.{access_to, reads_permitted, reads_at, reads, 
 use Rattle.pv_eval.specs.Objects.{where_possible, has_extent, heap_name, request_of, makes, instance_for, makes_literal, makes_function, can_fill, can_put, can_put_text, can_make}
 use Rattle.pv_eval.specs.ObjectParts.{can_place}
 use Rattle.pv_eval.specs.Callees.{may_call}
-use Rattle.pv_eval.specs.Library.{replied, with_memory, asked, asks}
+use Rattle.pv_eval.specs.Library.{done_by_reply, with_memory, done_by_call, asks}
 use Rattle.pv_world.specs.Suiting.{is_live}
 use Rattle.pv_eval.specs.Operations.{Op, Converts, Calculates, CalculatesOne, Tests, Negates, Accepts, Needs, Moves, Subtracts, Orders, Equals, Follows, Selects, Finds, TakesPart, Reads, Writes, NamesObject, NamesLiteral, NamesFunction, MakesFunction, Makes, MakesLiteral, Ends, BeginsBody, EndsBody, Fills, Puts, PutsText, Asks, suits, works, does}
 use Rattle.pv_verdicts.specs.Own.{OwnNames, DeniesHeap}
@@ -54,7 +54,7 @@ possible-on false w d h = record { fine = tt }
 permitted-on : (l : Lvalue) (p : Pointer) (rivals : List Access) (at : Reach) (w : World) (t : Told) → Granted (reads_permitted l p rivals at w t)
 permitted-on l p rivals at w t =
     if-on (conflicts (access_to l p false) rivals) w _ _ (record { fine = tt })
-    (λ e. worth-on w (read w.memory.bytes at.address l.size) l.shape (Some at.address) (Some p.prov) t)
+    (λ e. worth-on w (bytes_from w.memory.bytes at.address l.size) l.shape (Some at.address) (Some p.prov) t)
 
 reads-at : (b : Setting) (l : Lvalue) (p : Pointer) (rivals : List Access) (at : Reach) (w : World) (t : Told) → Granted (reads_at b l p rivals at w t)
 reads-at b l p rivals at w t = if-on (permits b w l at false) w _ _ (permitted-on l p rivals at w t) (λ e. record { fine = tt })
@@ -77,20 +77,20 @@ writes-on b l place v from rivals w =
 
 -- ---- calls of the library
 
-replied-on : (r : Reply) (w : World) (t : Told) → FineReplied (Ok r) → Granted (replied r w t)
+replied-on : (r : Reply) (w : World) (t : Told) → FineReplied (Ok r) → Granted (done_by_reply r w t)
 replied-on reply.Nothing w t f = record { fine = tt }
 replied-on (reply.Value v) w t f = record { fine = tt }
 replied-on (reply.Exit n) w t f = record { fine = tt }
 replied-on reply.Abort w t f = record { fine = tt }
 replied-on (reply.Placement e) w t f = record { fine = f }
 
-asked-on : (w : World) (text : List ℕ) (r : Result Reply Stop) (S : Now) → FineReplied r → Granted (asked w text r S)
+asked-on : (w : World) (text : List ℕ) (r : Result Reply Stop) (S : Now) → FineReplied r → Granted (done_by_call w text r S)
 asked-on w text (Ok r) S f = replied-on r (with_memory w S.memory) _ f
 asked-on w text (Err y) S f = record { fine = stop-fine y }
 
 asks-on : (f : Library) (args : List Arg) (w : World) → Granted (asks f args w)
 asks-on f args w =
-    asked-on w (output f args w.memory) (called f args w.memory).answer (called f args w.memory).after (called-fine f args (record { memory = w.memory; notes = [] }))
+    asked-on w (output f args w.memory) (reply_to_call f args w.memory).answer (reply_to_call f args w.memory).after (called-fine f args (record { memory = w.memory; notes = [] }))
 
 -- ---- objects and literals
 

@@ -12,13 +12,13 @@ use Rattle.pv_inst.specs.declared.values.Instance.{Instance}
 use Rattle.pv_inst.specs.declared.values.Tried.{Tried}
 use Rattle.pv_inst.specs.declared.values.Miss.{Miss}
 use Rattle.pv_inst.specs.Table.{Table, instance_at, live_bytes, count_of}
-use Rattle.pv_inst.specs.Use.{use_answer, settled}
+use Rattle.pv_inst.specs.Use.{use_answer, after_use}
 use Rattle.pv_inst.specs.TwoPointers.{same_miss, same_state, same_left, same_right, after_left}
 use Rattle.pv_inst.specs.Exposure.{exposing, expose_one, expose}
 use Rattle.pv_inst.specs.EndingParts.{ending}
 use Rattle.pv_inst.specs.Finding.{found_at, table_by}
 use Rattle.pv_inst.specs.Placing.{Request, place, place_said, place_at, unless_overlap, first_overlap}
-use Rattle.pv_inst.specs.PlacingParts.{rounded}
+use Rattle.pv_inst.specs.PlacingParts.{multiple_of_16}
 use Rattle.pv_exec.proofs.Memory.Ways.{Changes, OfTables, of-tables}
 
 -- the second table has the script of the first one
@@ -33,7 +33,7 @@ same-trans {T} {U} {V} h g = record { script = g.script ∙ h.script }
 
 -- ---- instances and pairs
 
-settled-same : (T : Table) (p : Prov) (r : Result Tried Miss) → Same T (settled T p r)
+settled-same : (T : Table) (p : Prov) (r : Result Tried Miss) → Same T (after_use T p r)
 settled-same T (Pair k) (Ok tried) = record { script = refl }
 settled-same T (Pair k) (Err miss) = record { script = refl }
 settled-same T (Inst i) r = record { script = refl }
@@ -83,7 +83,7 @@ at-same T r k base default =
     (pair-if (not (nat_eq (base % r.align) 0)) T (Err (Misaligned k base), T) _ same-itself (overlap-same T r k base default (first_overlap T.instances base r.size)))
 
 said-same : (T : Table) (r : Request) (k : ℕ) (o : Option Place) → Same T (place_said o T r k).1
-said-same T r k None = at-same T r k (rounded T.cursor) true
+said-same T r k None = at-same T r k (multiple_of_16 T.cursor) true
 said-same T r k (Some (At base)) = at-same T r k base false
 said-same T r k (Some Null) = record { script = refl }
 

@@ -14,16 +14,16 @@ use Rattle.pv_lex.specs.Bytes.{is_white, is_letter, is_in, underscore, run, fron
 use Rattle.pv_lex.specs.Tables.{row_of, first_row}
 use Rattle.pv_lex.specs.Pieces.{What, White, Comment, Marker, Spelling, Piece, Stand, End, Bad, Here, ◌>>=◌, or_bad, token}
 use Rattle.pv_lex.specs.Words.{keyword_or_name, word_at, is_wide, is_quote, words as keywords}
-use Rattle.pv_lex.specs.Constants.{suffixes, sized, number_of, constant_of, number_at, value_from}
+use Rattle.pv_lex.specs.Constants.{suffixes, constant_of_value, number_of, constant_of, number_at, value_from}
 use Rattle.pv_lex.specs.ConstantParts.{fits_constant}
 use Rattle.pv_lex.specs.Characters.{character_at, character_constant, characters, string_literal}
 use Rattle.pv_lex.specs.CharacterParts.{closed_character}
 use Rattle.pv_lex.specs.Comments.{behind_close, block_comment}
-use Rattle.pv_lex.specs.Markers.{some_of, quoted, groups, marker}
+use Rattle.pv_lex.specs.Markers.{some_of, behind_quotes, groups, marker}
 use Rattle.pv_lex.specs.MarkerParts.{marker_piece, mark_row}
 use Rattle.pv_lex.specs.Marks.{marks, mark_at}
 use Rattle.pv_lex.specs.Stands.{stands}
-use Rattle.pv_lex.specs.Rows.{Place, start, behind_piece, Row, spelt_here, spelt}
+use Rattle.pv_lex.specs.Rows.{Place, start, behind_piece, Row, spelt_here, tokens_among}
 use Rattle.pv_lex.specs.Lexes.{Lexes}
 use Rattle.pv_script.specs.Names.{name_at}
 use Rattle.pv_script.specs.Words as words
@@ -168,7 +168,7 @@ unfolding number_of
 number_plain base [] suffix = record { held = tt }
 number_plain base (d ∷ ds) suffix =
     let v = value_from base 0 (d ∷ ds) in
-    said_then (row_of suffixes suffix) (sized base v) (λ s. said_if (fits_constant base v s) (Some _) None (record { held = tt }) (record { held = tt }))
+    said_then (row_of suffixes suffix) (constant_of_value base v) (λ s. said_if (fits_constant base v s) (Some _) None (record { held = tt }) (record { held = tt }))
 
 constant_plain : (text : List ℕ) → IsSaid (constant_of text)
 unfolding constant_of
@@ -222,9 +222,9 @@ marker_plain : (digits after : List ℕ) → IsPiece (marker_piece digits after)
 marker_plain digits after = piece_if (nat_le (length digits) 10 && nat_le (value_from 10 0 digits) 2147483647) (Some _) None (record { held = tt }) (record { held = tt })
 
 marker_of_class : (k m : _) (text : List ℕ)
-    → IsPiece (some_of k text >>= λ a. some_of m a.1 >>= λ n. some_of k n.1 >>= λ b. quoted b.1 >>= λ name. groups (length name) name >>= λ after. marker_piece n.0 after)
+    → IsPiece (some_of k text >>= λ a. some_of m a.1 >>= λ n. some_of k n.1 >>= λ b. behind_quotes b.1 >>= λ name. groups (length name) name >>= λ after. marker_piece n.0 after)
 marker_of_class k m text =
-    piece_then (some_of k text) _ (λ a. piece_then (some_of m a.1) _ (λ n. piece_then (some_of k n.1) _ (λ b. piece_then (quoted b.1) _ (λ name. piece_then (groups (length name) name) _ (λ after. marker_plain n.0 after)))))
+    piece_then (some_of k text) _ (λ a. piece_then (some_of m a.1) _ (λ n. piece_then (some_of k n.1) _ (λ b. piece_then (behind_quotes b.1) _ (λ name. piece_then (groups (length name) name) _ (λ after. marker_plain n.0 after)))))
 
 marker_stand : (text : List ℕ) → IsPiece (marker text)
 unfolding marker
@@ -293,15 +293,15 @@ here_plain start line (Comment n) h = tt
 here_plain start line (Marker n) h = tt
 here_plain start line (Spelling s) h = (h, tt)
 
-row_spelt : (whole : ℕ) (p q : Place) (xs : List Piece) → Row p xs q → AllPlain (spelt whole p xs)
+row_spelt : (whole : ℕ) (p q : Place) (xs : List Piece) → Row p xs q → AllPlain (tokens_among whole p xs)
 row_spelt whole p q [] h = tt
 row_spelt whole p q (x ∷ xs) h =
     let what : PlainWhat x.what = subst PlainStand h.0 (stand_plain p.fresh p.text).held in
-    plain_append (spelt_here (whole - length p.text) p.line x.what) (spelt whole (behind_piece x p) xs) (here_plain (whole - length p.text) p.line x.what what) (row_spelt whole (behind_piece x p) q xs h.1)
+    plain_append (spelt_here (whole - length p.text) p.line x.what) (tokens_among whole (behind_piece x p) xs) (here_plain (whole - length p.text) p.line x.what what) (row_spelt whole (behind_piece x p) q xs h.1)
 
 pub lexed_texts : (source : List ℕ) (t : Table) → Lexes source t → AllTexts t.names
 lexed_texts source t h =
-    let ss = spelt (length source) (start source) h.pieces in
+    let ss = tokens_among (length source) (start source) h.pieces in
     subst AllTexts (sym h.tells.names) (from_texts [] ss tt (row_spelt (length source) (start source) h.last h.pieces h.row))
 
 -- the unit's names

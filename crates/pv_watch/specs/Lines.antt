@@ -26,13 +26,13 @@ making_of_pair p (Pair pair address low high) = if pair == p then Some (low, hig
 making_of_pair p _ = None
 
 -- `name#k`, which the memory model calls an instance by, or `?` where the instance's making isn't told or its name has no text
-abbrev pub named : List (List ℕ) → Option (ℕ × ℕ) → List ℕ
-named names None = codes "?"
-named names (Some p) = if nat_lt p.0 (length names) then name_at names p.0 ++ codes "#" ++ decimal p.1 else codes "?"
+abbrev pub text_of_instance : List (List ℕ) → Option (ℕ × ℕ) → List ℕ
+text_of_instance names None = codes "?"
+text_of_instance names (Some p) = if nat_lt p.0 (length names) then name_at names p.0 ++ codes "#" ++ decimal p.1 else codes "?"
 
 -- the memory model: the text of a storage instance
 abbrev pub instance_text : List Event → List (List ℕ) → ℕ → List ℕ
-instance_text seen names i = named names (first_told (making_of i) seen)
+instance_text seen names i = text_of_instance names (first_told (making_of i) seen)
 
 -- the memory model: the candidates that passed, the low one first
 abbrev pub survivors : List ℕ → List ℕ → (low high : Bool) → List ℕ

@@ -13,11 +13,11 @@ use Rattle.pv_typed.specs.declared.nodes.Sign.{Sign}
 use Rattle.pv_typed.specs.declared.nodes.Sign.TheVariants.{Plus, Minus}
 use Rattle.pv_typed.specs.TypedTree.{TypedTree, Assign, CompoundAssign, PointerAssign, type_of}
 use Rattle.pv_typed.specs.TypedUnits.{WholeUnit}
-use Rattle.pv_check.specs.Kinds.{common}
-use Rattle.pv_num.specs.Kinds.{promoted}
+use Rattle.pv_check.specs.Kinds.{common_kind}
+use Rattle.pv_num.specs.Kinds.{promotion_of}
 use Rattle.pv_check.specs.Sorts.{complete_pointed_by}
-use Rattle.pv_types.specs.Sorts.{kind_in, kind_of, pointed_in, pointed_by, bare}
-use Rattle.pv_check.specs.Values.{written, converted, assigned, is_modifiable}
+use Rattle.pv_types.specs.Sorts.{kind_in, kind_of, pointed_in, pointed_by, bare_type}
+use Rattle.pv_check.specs.Values.{source_node, conversion_to, as_if_assigned, is_modifiable}
 use Rattle.pv_check.specs.Assignment.{compound_at, arithmetic_assign, shift_assign, sum_assign, assign_by, assign_of, comma_of}
 use Rattle.pv_check.specs.AssignmentParts.{assigned_to, simple_of, arithmetic_kinds, shift_kinds, step_to, pointer_assign}
 use Rattle.pv_guards.specs.Typed.{MayBeRight}
@@ -57,16 +57,16 @@ some-kind (Some j) k e = refl
 module _ (E : Type 0) (v : WholeUnit) (os : List ℕ) (done : IsFinished v) (es : List Entry) (more : Extends es v) where
   -- 6.5.16.1
   simple-row : (line : ℕ) (a b : TypedTree) → IsExpression E v os a → IsModified es a → IsOperand E v os b → (x : TypedTree) → simple_of line a b ≡ Some x → IsExpression E v os x
-  simple-row line a b h m g x e = by (assigned (type_of a) b) refl e
+  simple-row line a b h m g x e = by (as_if_assigned (type_of a) b) refl e
     where
-      by : (o : Option TypedTree) → assigned (type_of a) b ≡ o → assigned_to line a o ≡ Some x → IsExpression E v os x
+      by : (o : Option TypedTree) → as_if_assigned (type_of a) b ≡ o → assigned_to line a o ≡ Some x → IsExpression E v os x
       by None p e = absurd cc
       by (Some c) p e =
           let q = assigned-row E v os (type_of a) b g c p in
-          as-made (IsExpression E v os) (written line (bare (type_of a)) (Assign a c)) x (record {
-            typed = λ i. (h.typed i, m.place, q.converted.typed i, has-type E v os (bare (type_of a)) c q.converted, refl, sized-later v done es more (type_of a) h.proper m.complete, q.value);
+          as-made (IsExpression E v os) (source_node line (bare_type (type_of a)) (Assign a c)) x (record {
+            typed = λ i. (h.typed i, m.place, q.converted.typed i, has-type E v os (bare_type (type_of a)) c q.converted, refl, sized-later v done es more (type_of a) h.proper m.complete, q.value);
             proper = proper-bare v (type_of a) h.proper;
-            valued = λ n. (refl, value-or-void (bare (type_of a)) q.value);
+            valued = λ n. (refl, value-or-void (bare_type (type_of a)) q.value);
           }) e
 
   -- 6.5.16.2p3: of integers
@@ -74,9 +74,9 @@ module _ (E : Type 0) (v : WholeUnit) (os : List ℕ) (done : IsFinished v) (es 
       → IsPromoted k → MayBeRight op k r → (x : TypedTree) → compound_at line op a b k r ≡ Some x → IsExpression E v os x
   compound-row line op a b h m g j l k r p q w z x e =
       let c = integer-converted E v os l r b g (kind-type (type_of b) l g.plain q) in
-      let is : bare (type_of a) ≡ IntTy j = kind-inside (bare (type_of a)) j p in
-      as-made (IsExpression E v os) (written line (bare (type_of a)) (CompoundAssign op k a (converted (IntTy r) b))) x (record {
-        typed = λ i. (j, r, h.typed i, m.place, c.typed i, has-type E v os (IntTy r) (converted (IntTy r) b) c, is, refl, w, z, sized-later v done es more (type_of a) h.proper m.complete);
+      let is : bare_type (type_of a) ≡ IntTy j = kind-inside (bare_type (type_of a)) j p in
+      as-made (IsExpression E v os) (source_node line (bare_type (type_of a)) (CompoundAssign op k a (conversion_to (IntTy r) b))) x (record {
+        typed = λ i. (j, r, h.typed i, m.place, c.typed i, has-type E v os (IntTy r) (conversion_to (IntTy r) b) c, is, refl, w, z, sized-later v done es more (type_of a) h.proper m.complete);
         proper = proper-bare v (type_of a) h.proper;
         valued = λ n. (refl, subst IsValueOrVoid (sym is) tt);
       }) e
@@ -85,19 +85,19 @@ module _ (E : Type 0) (v : WholeUnit) (os : List ℕ) (done : IsFinished v) (es 
       → (o p : Option IntKind) → kind_of (type_of a) ≡ o → kind_of (type_of b) ≡ p → (x : TypedTree) → arithmetic_kinds line op a b o p ≡ Some x → IsExpression E v os x
   arithmetic-kinds-row line op right a b h m g None p q r x e = absurd cc
   arithmetic-kinds-row line op right a b h m g (Some k) None q r x e = absurd cc
-  arithmetic-kinds-row line op right a b h m g (Some k) (Some l) q r x e = compound-row line op a b h m g k l (common k l) (common k l) q r (common-wide k l) (right (common k l)) x e
+  arithmetic-kinds-row line op right a b h m g (Some k) (Some l) q r x e = compound-row line op a b h m g k l (common_kind k l) (common_kind k l) q r (common-wide k l) (right (common_kind k l)) x e
 
   arithmetic-row : (line : ℕ) (op : BinOp) → ((k : IntKind) → MayBeRight op k k) → (a b : TypedTree) → IsExpression E v os a → IsModified es a → IsOperand E v os b
       → (x : TypedTree) → arithmetic_assign line op a b ≡ Some x → IsExpression E v os x
   arithmetic-row line op right a b h m g x e = arithmetic-kinds-row line op right a b h m g (kind_of (type_of a)) (kind_of (type_of b)) refl refl x e
 
-  shift-kinds-row : (line : ℕ) (op : BinOp) → ((k l : IntKind) → MayBeRight op (promoted k) (promoted l)) → (a b : TypedTree) → IsExpression E v os a → IsModified es a → IsOperand E v os b
+  shift-kinds-row : (line : ℕ) (op : BinOp) → ((k l : IntKind) → MayBeRight op (promotion_of k) (promotion_of l)) → (a b : TypedTree) → IsExpression E v os a → IsModified es a → IsOperand E v os b
       → (o p : Option IntKind) → kind_of (type_of a) ≡ o → kind_of (type_of b) ≡ p → (x : TypedTree) → shift_kinds line op a b o p ≡ Some x → IsExpression E v os x
   shift-kinds-row line op right a b h m g None p q r x e = absurd cc
   shift-kinds-row line op right a b h m g (Some k) None q r x e = absurd cc
-  shift-kinds-row line op right a b h m g (Some k) (Some l) q r x e = compound-row line op a b h m g k l (promoted k) (promoted l) q r (promoted-wide k) (right k l) x e
+  shift-kinds-row line op right a b h m g (Some k) (Some l) q r x e = compound-row line op a b h m g k l (promotion_of k) (promotion_of l) q r (promoted-wide k) (right k l) x e
 
-  shift-row : (line : ℕ) (op : BinOp) → ((k l : IntKind) → MayBeRight op (promoted k) (promoted l)) → (a b : TypedTree) → IsExpression E v os a → IsModified es a → IsOperand E v os b
+  shift-row : (line : ℕ) (op : BinOp) → ((k l : IntKind) → MayBeRight op (promotion_of k) (promotion_of l)) → (a b : TypedTree) → IsExpression E v os a → IsModified es a → IsOperand E v os b
       → (x : TypedTree) → shift_assign line op a b ≡ Some x → IsExpression E v os x
   shift-row line op right a b h m g x e = shift-kinds-row line op right a b h m g (kind_of (type_of a)) (kind_of (type_of b)) refl refl x e
 
@@ -108,10 +108,10 @@ module _ (E : Type 0) (v : WholeUnit) (os : List ℕ) (done : IsFinished v) (es 
   step-row line sign a b h m g (Some t) None q r x e = absurd cc
   step-row line sign a b h m g (Some t) (Some k) q r x e =
       let found = some-complete es (pointed_by (type_of a)) t q in
-      let is : bare (type_of a) ≡ PointerTo t = pointed-inside (bare (type_of a)) t found.0 in
+      let is : bare_type (type_of a) ≡ PointerTo t = pointed-inside (bare_type (type_of a)) t found.0 in
       let plain = proper-bare v (type_of a) h.proper in
       let proper : IsProper v t = subst (IsProper v) is plain in
-      as-made (IsExpression E v os) (written line (bare (type_of a)) (PointerAssign sign a b)) x (record {
+      as-made (IsExpression E v os) (source_node line (bare_type (type_of a)) (PointerAssign sign a b)) x (record {
         typed = λ i. (
           t,
           h.typed i,

@@ -15,12 +15,12 @@ use Rattle.pv_typed.specs.declared.nodes.Sign.{Sign}
 use Rattle.pv_typed.specs.declared.nodes.Sign.TheVariants.{Plus, Minus}
 use Rattle.pv_typed.specs.TypedTree.{TypedTree, Arithmetic, PointerSum, PointerDifference, PointerOrder, LogicalAnd, LogicalOr, type_of, is_function}
 use Rattle.pv_typed.specs.TypedUnits.{WholeUnit, layouts}
-use Rattle.pv_check.specs.Kinds.{common}
-use Rattle.pv_num.specs.Kinds.{promoted}
+use Rattle.pv_check.specs.Kinds.{common_kind}
+use Rattle.pv_num.specs.Kinds.{promotion_of}
 use Rattle.pv_check.specs.Sorts.{complete_pointed_by, are_alike, is_void_beside}
 use Rattle.pv_types.specs.Sorts.{kind_of, pointed_by, is_scalar}
 use Rattle.std.specs.Option.{option_or}
-use Rattle.pv_check.specs.Values.{written, converted}
+use Rattle.pv_check.specs.Values.{source_node, conversion_to}
 use Rattle.pv_check.specs.Equality.{equality, right_converted, left_converted, equal_at, pointers_equal}
 use Rattle.pv_check.specs.EqualityParts.{equal_pointers}
 use Rattle.pv_check.specs.Binary.{arithmetic_of, shift_of, sum_at, pointer_sum_of, difference_at, pointer_difference_of, order_of, equality_of, are_scalar, binary_of}
@@ -58,11 +58,11 @@ module _ (E : Type 0) (v : WholeUnit) (os : List ℕ) (done : IsFinished v) (es 
   arithmetic-at-row line op right a b h g None p q r x e = absurd cc
   arithmetic-at-row line op right a b h g (Some k) None q r x e = absurd cc
   arithmetic-at-row line op right a b h g (Some k) (Some l) q r x e =
-      let c = common k l in
+      let c = common_kind k l in
       let m = integer-converted E v os k c a h (kind-type (type_of a) k h.plain q) in
       let n = integer-converted E v os l c b g (kind-type (type_of b) l g.plain r) in
-      as-made (IsExpression E v os) (written line (IntTy (yielded_kind op c)) (Arithmetic op (converted (IntTy c) a) (converted (IntTy c) b))) x (record {
-        typed = λ i. (c, c, m.typed i, has-type E v os (IntTy c) (converted (IntTy c) a) m, n.typed i, has-type E v os (IntTy c) (converted (IntTy c) b) n, common-wide k l, right c, refl);
+      as-made (IsExpression E v os) (source_node line (IntTy (yielded_kind op c)) (Arithmetic op (conversion_to (IntTy c) a) (conversion_to (IntTy c) b))) x (record {
+        typed = λ i. (c, c, m.typed i, has-type E v os (IntTy c) (conversion_to (IntTy c) a) m, n.typed i, has-type E v os (IntTy c) (conversion_to (IntTy c) b) n, common-wide k l, right c, refl);
         proper = tt;
         valued = λ z. (refl, tt);
       }) e
@@ -72,30 +72,30 @@ module _ (E : Type 0) (v : WholeUnit) (os : List ℕ) (done : IsFinished v) (es 
   arithmetic-row line op right a b h g x e = arithmetic-at-row line op right a b h g (kind_of (type_of a)) (kind_of (type_of b)) refl refl x e
 
   -- 6.5.7p2, p3
-  shift-at-row : (line : ℕ) (op : BinOp) → ((k : IntKind) → yielded_kind op k ≡ k) → ((k l : IntKind) → MayBeRight op (promoted k) (promoted l)) → (a b : TypedTree) → IsOperand E v os a → IsOperand E v os b
+  shift-at-row : (line : ℕ) (op : BinOp) → ((k : IntKind) → yielded_kind op k ≡ k) → ((k l : IntKind) → MayBeRight op (promotion_of k) (promotion_of l)) → (a b : TypedTree) → IsOperand E v os a → IsOperand E v os b
       → (o p : Option IntKind) → kind_of (type_of a) ≡ o → kind_of (type_of b) ≡ p → (x : TypedTree) → shift_at line op a b o p ≡ Some x → IsExpression E v os x
   shift-at-row line op yields right a b h g None p q r x e = absurd cc
   shift-at-row line op yields right a b h g (Some k) None q r x e = absurd cc
   shift-at-row line op yields right a b h g (Some k) (Some l) q r x e =
-      let m = integer-converted E v os k (promoted k) a h (kind-type (type_of a) k h.plain q) in
-      let n = integer-converted E v os l (promoted l) b g (kind-type (type_of b) l g.plain r) in
-      as-made (IsExpression E v os) (written line (IntTy (promoted k)) (Arithmetic op (converted (IntTy (promoted k)) a) (converted (IntTy (promoted l)) b))) x (record {
+      let m = integer-converted E v os k (promotion_of k) a h (kind-type (type_of a) k h.plain q) in
+      let n = integer-converted E v os l (promotion_of l) b g (kind-type (type_of b) l g.plain r) in
+      as-made (IsExpression E v os) (source_node line (IntTy (promotion_of k)) (Arithmetic op (conversion_to (IntTy (promotion_of k)) a) (conversion_to (IntTy (promotion_of l)) b))) x (record {
         typed = λ i. (
-          promoted k,
-          promoted l,
+          promotion_of k,
+          promotion_of l,
           m.typed i,
-          has-type E v os (IntTy (promoted k)) (converted (IntTy (promoted k)) a) m,
+          has-type E v os (IntTy (promotion_of k)) (conversion_to (IntTy (promotion_of k)) a) m,
           n.typed i,
-          has-type E v os (IntTy (promoted l)) (converted (IntTy (promoted l)) b) n,
+          has-type E v os (IntTy (promotion_of l)) (conversion_to (IntTy (promotion_of l)) b) n,
           promoted-wide k,
           right k l,
-          ap IntTy (sym (yields (promoted k))),
+          ap IntTy (sym (yields (promotion_of k))),
         );
         proper = tt;
         valued = λ z. (refl, tt);
       }) e
 
-  shift-row : (line : ℕ) (op : BinOp) → ((k : IntKind) → yielded_kind op k ≡ k) → ((k l : IntKind) → MayBeRight op (promoted k) (promoted l)) → (a b : TypedTree) → IsOperand E v os a → IsOperand E v os b
+  shift-row : (line : ℕ) (op : BinOp) → ((k : IntKind) → yielded_kind op k ≡ k) → ((k l : IntKind) → MayBeRight op (promotion_of k) (promotion_of l)) → (a b : TypedTree) → IsOperand E v os a → IsOperand E v os b
       → (x : TypedTree) → shift_of line op a b ≡ Some x → IsExpression E v os x
   shift-row line op yields right a b h g x e = shift-at-row line op yields right a b h g (kind_of (type_of a)) (kind_of (type_of b)) refl refl x e
 
@@ -107,16 +107,16 @@ module _ (E : Type 0) (v : WholeUnit) (os : List ℕ) (done : IsFinished v) (es 
   complete-at t e p q h = to-complete v done es more t e p q h
 
   left-sum : (line : ℕ) (sign : Sign) (a b : TypedTree) → IsOperand E v os a → IsOperand E v os b → (t : Ty) → complete_pointed_by es (type_of a) ≡ Some t → is_some (kind_of (type_of b)) ≡ true
-      → (x : TypedTree) → Some (written line (type_of a) (PointerSum sign a b)) ≡ Some x → IsExpression E v os x
-  left-sum line sign a b h g t p q x e = as-made (IsExpression E v os) (written line (type_of a) (PointerSum sign a b)) x (record {
+      → (x : TypedTree) → Some (source_node line (type_of a) (PointerSum sign a b)) ≡ Some x → IsExpression E v os x
+  left-sum line sign a b h g t p q x e = as-made (IsExpression E v os) (source_node line (type_of a) (PointerSum sign a b)) x (record {
     typed = λ i. (h.typed i, has-value E v os a h, g.typed i, has-value E v os b g, inl (refl, element-pointer (type_of a) t (complete-at (type_of a) t h.plain h.proper p), integer-type (type_of b) g.plain q));
     proper = h.proper;
     valued = λ n. (refl, h.plain);
   }) e
 
   right-sum : (line : ℕ) (sign : Sign) (a b : TypedTree) → IsOperand E v os a → IsOperand E v os b → (t : Ty) → complete_pointed_by es (type_of b) ≡ Some t → is_some (kind_of (type_of a)) ≡ true
-      → (x : TypedTree) → Some (written line (type_of b) (PointerSum sign a b)) ≡ Some x → IsExpression E v os x
-  right-sum line sign a b h g t p q x e = as-made (IsExpression E v os) (written line (type_of b) (PointerSum sign a b)) x (record {
+      → (x : TypedTree) → Some (source_node line (type_of b) (PointerSum sign a b)) ≡ Some x → IsExpression E v os x
+  right-sum line sign a b h g t p q x e = as-made (IsExpression E v os) (source_node line (type_of b) (PointerSum sign a b)) x (record {
     typed = λ i. (h.typed i, has-value E v os a h, g.typed i, has-value E v os b g, inr (refl, element-pointer (type_of b) t (complete-at (type_of b) t g.plain g.proper p), integer-type (type_of a) h.plain q));
     proper = g.proper;
     valued = λ n. (refl, g.plain);
@@ -155,8 +155,8 @@ module _ (E : Type 0) (v : WholeUnit) (os : List ℕ) (done : IsFinished v) (es 
       z : ToComplete v (type_of b) u
       z = complete-at (type_of b) u g.plain g.proper r
 
-      by : (c : Bool) → (if c then Some (written line (IntTy Long) (PointerDifference a b)) else None) ≡ Some x → IsExpression E v os x
-      by true e = as-made (IsExpression E v os) (written line (IntTy Long) (PointerDifference a b)) x (record {
+      by : (c : Bool) → (if c then Some (source_node line (IntTy Long) (PointerDifference a b)) else None) ≡ Some x → IsExpression E v os x
+      by true e = as-made (IsExpression E v os) (source_node line (IntTy Long) (PointerDifference a b)) x (record {
         typed = λ i. (t, u, h.typed i, has-value-as E v os a (PointerTo t) h s.is, g.typed i, has-value-as E v os b (PointerTo u) g z.is, s.sized, refl);
         proper = tt;
         valued = λ n. (refl, tt);
@@ -180,8 +180,8 @@ module _ (E : Type 0) (v : WholeUnit) (os : List ℕ) (done : IsFinished v) (es 
   order-at-row line op w a b h g (Some t) None q r x e = absurd cc
   order-at-row line op w a b h g (Some t) (Some u) q r x e = by (not (is_function t) && are_alike t u) e
     where
-      by : (c : Bool) → (if c then Some (written line (IntTy Int) (PointerOrder op a b)) else None) ≡ Some x → IsExpression E v os x
-      by true e = as-made (IsExpression E v os) (written line (IntTy Int) (PointerOrder op a b)) x (record {
+      by : (c : Bool) → (if c then Some (source_node line (IntTy Int) (PointerOrder op a b)) else None) ≡ Some x → IsExpression E v os x
+      by true e = as-made (IsExpression E v os) (source_node line (IntTy Int) (PointerOrder op a b)) x (record {
         typed = λ i. (t, u, h.typed i, has-value-as E v os a (PointerTo t) h (pointed-type (type_of a) t h.plain q), g.typed i, has-value-as E v os b (PointerTo u) g (pointed-type (type_of b) u g.plain r), w, refl);
         proper = tt;
         valued = λ n. (refl, tt);
@@ -210,20 +210,20 @@ module _ (E : Type 0) (v : WholeUnit) (os : List ℕ) (done : IsFinished v) (es 
   as-it-is a t h e = record { typed = h.typed; value = h.value; is = e }
 
   -- a scalar as a pointer
-  pointer-converted : (a : TypedTree) (t u : Ty) → IsOperand E v os a → IsScalarType (type_of a) → t ≡ PointerTo u → IsConverted E v os (PointerTo u) (converted t a)
+  pointer-converted : (a : TypedTree) (t u : Ty) → IsOperand E v os a → IsScalarType (type_of a) → t ≡ PointerTo u → IsConverted E v os (PointerTo u) (conversion_to t a)
   pointer-converted a t u h s e =
-      subst (λ w. IsConverted E v os w (converted t a)) e
+      subst (λ w. IsConverted E v os w (conversion_to t a)) e
       (converted-row E v os t a h (λ n. subst (MayConvert (type_of a)) (sym e) (scalar-pointer (type_of a) u s)))
 
   right-row : (line : ℕ) (op : BinOp) (a b : TypedTree) → IsOperand E v os a → IsOperand E v os b → (t : Ty) → type_of a ≡ PointerTo t → IsScalarType (type_of b)
       → (x : TypedTree) → Some (right_converted line op a b) ≡ Some x → IsExpression E v os x
   right-row line op a b h g t is s x e =
-      equality-made line op a (converted (type_of a) b) t t (as-it-is a (PointerTo t) h is) (pointer-converted b (type_of a) t g s is) x e
+      equality-made line op a (conversion_to (type_of a) b) t t (as-it-is a (PointerTo t) h is) (pointer-converted b (type_of a) t g s is) x e
 
   left-row : (line : ℕ) (op : BinOp) (a b : TypedTree) → IsOperand E v os a → IsOperand E v os b → (t : Ty) → type_of b ≡ PointerTo t → IsScalarType (type_of a)
       → (x : TypedTree) → Some (left_converted line op a b) ≡ Some x → IsExpression E v os x
   left-row line op a b h g t is s x e =
-      equality-made line op (converted (type_of b) a) b t t (pointer-converted a (type_of b) t h s is) (as-it-is b (PointerTo t) g is) x e
+      equality-made line op (conversion_to (type_of b) a) b t t (pointer-converted a (type_of b) t h s is) (as-it-is b (PointerTo t) g is) x e
 
   scalar-at : (a : TypedTree) (t : Ty) → type_of a ≡ PointerTo t → IsScalarType (type_of a)
   scalar-at a t e = subst IsScalarType (sym e) tt
@@ -274,10 +274,10 @@ module _ (E : Type 0) (v : WholeUnit) (os : List ℕ) (done : IsFinished v) (es 
   and-row : (line : ℕ) (a b : TypedTree) → IsOperand E v os a → IsOperand E v os b → (x : TypedTree) → and_of line a b ≡ Some x → IsExpression E v os x
   and-row line a b h g x e = by (are_scalar a b) refl e
     where
-      by : (c : Bool) → are_scalar a b ≡ c → (if c then Some (written line (IntTy Int) (LogicalAnd a b)) else None) ≡ Some x → IsExpression E v os x
+      by : (c : Bool) → are_scalar a b ≡ c → (if c then Some (source_node line (IntTy Int) (LogicalAnd a b)) else None) ≡ Some x → IsExpression E v os x
       by true p e =
           let s = both-true (is_scalar (type_of a)) (is_scalar (type_of b)) p in
-          as-made (IsExpression E v os) (written line (IntTy Int) (LogicalAnd a b)) x (record {
+          as-made (IsExpression E v os) (source_node line (IntTy Int) (LogicalAnd a b)) x (record {
             typed = λ i. (h.typed i, has-value E v os a h, g.typed i, has-value E v os b g, scalar-type (type_of a) h.plain s.0, scalar-type (type_of b) g.plain s.1, refl);
             proper = tt;
             valued = λ n. (refl, tt);
@@ -287,10 +287,10 @@ module _ (E : Type 0) (v : WholeUnit) (os : List ℕ) (done : IsFinished v) (es 
   or-row : (line : ℕ) (a b : TypedTree) → IsOperand E v os a → IsOperand E v os b → (x : TypedTree) → or_of line a b ≡ Some x → IsExpression E v os x
   or-row line a b h g x e = by (are_scalar a b) refl e
     where
-      by : (c : Bool) → are_scalar a b ≡ c → (if c then Some (written line (IntTy Int) (LogicalOr a b)) else None) ≡ Some x → IsExpression E v os x
+      by : (c : Bool) → are_scalar a b ≡ c → (if c then Some (source_node line (IntTy Int) (LogicalOr a b)) else None) ≡ Some x → IsExpression E v os x
       by true p e =
           let s = both-true (is_scalar (type_of a)) (is_scalar (type_of b)) p in
-          as-made (IsExpression E v os) (written line (IntTy Int) (LogicalOr a b)) x (record {
+          as-made (IsExpression E v os) (source_node line (IntTy Int) (LogicalOr a b)) x (record {
             typed = λ i. (h.typed i, has-value E v os a h, g.typed i, has-value E v os b g, scalar-type (type_of a) h.plain s.0, scalar-type (type_of b) g.plain s.1, refl);
             proper = tt;
             valued = λ n. (refl, tt);

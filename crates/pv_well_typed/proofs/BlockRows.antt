@@ -10,27 +10,27 @@ use Rattle.pv_typed.specs.Known.{Each}
 use Rattle.pv_typed.proofs.Each.{each_append, each_weaker, each_left, each_right}
 use Rattle.pv_typed.specs.TypedUnits.{WholeUnit, TypedObject, Store, layouts, object_at}
 use Rattle.pv_typed.specs.UnitParts.{no_object}
-use Rattle.pv_check.specs.Derivations.{declared_name, derived}
+use Rattle.pv_check.specs.Derivations.{declared_name, derived_type}
 use Rattle.pv_typed.specs.TypedTree.{is_function}
-use Rattle.pv_check.specs.Specifiers.{Specified, specified}
+use Rattle.pv_check.specs.Specifiers.{Specified, specification_of}
 use Rattle.pv_check.specs.State.{State, After, ObjectName, give, env}
-use Rattle.pv_check.specs.Scopes.{innermost, find, is_file_scope}
+use Rattle.pv_check.specs.Scopes.{innermost_scope, find, is_file_scope}
 use Rattle.pv_typed.specs.Constants.{and_then}
 use Rattle.pv_check.specs.Tags.{composite_named, tag_alone}
 use Rattle.pv_check.specs.Typing.{specifiers, steps}
-use Rattle.pv_unit.specs.Blocks.{Reached, block_storage, with_initializer, block_object, reached, is_present, block_declarator, block_init_declarator, block_declarators, block_alone, block_declaration}
+use Rattle.pv_unit.specs.Blocks.{Reached, block_storage, with_initializer, block_object, reached_object, is_present, block_declarator, block_init_declarator, block_declarators, block_alone, block_declaration}
 use Rattle.pv_unit.specs.BlockParts.{block_declared}
 use Rattle.pv_unit.specs.Declarations.{DeclaredType, only_tag, specified_by, type_declared}
 use Rattle.pv_unit.specs.DeclarationParts.{declares_something, with_unsized, has_unsized}
-use Rattle.pv_unit.specs.Statements.{reached as declares, declared_in}
+use Rattle.pv_unit.specs.Statements.{reached_declarations as declares, declared_in}
 use Rattle.pv_typed.specs.TypedStatement.{statements_of}
 use Rattle.pv_guards.specs.TypedStatements as guards
 use Rattle.pv_unit.specs.Redeclarations.{unit_name, new_object}
 use Rattle.pv_unit.specs.Initializers.{Given}
-use Rattle.pv_unit.specs.Parts.{sized}
+use Rattle.pv_unit.specs.Parts.{with_size}
 use Rattle.pv_typed.specs.Addresses.{size_in}
 use Rattle.pv_typed.specs.AddressParts.{or_zero}
-use Rattle.pv_unit.specs.ValueRules.{initialized, with_given}
+use Rattle.pv_unit.specs.ValueRules.{typed_initializer, with_given}
 use Rattle.pv_eval.specs.Objects.{heap_name}
 use Rattle.pv_guards.specs.Typed.{IsIn}
 use Rattle.pv_guards.specs.TypedStatements.{IsMakeable, AreNew, IsInitializer, IsDeclared}
@@ -71,7 +71,7 @@ AreStored v os t xs = Each (λ (x : Store). (x.offset + (layout_in (layouts v) x
 pub record GivenIn (v : WholeUnit) (lasting : Bool) (t : Ty) (s : State) (f : After Given) : Type 0 where
   pub proper : IsProper v f.value.t
   -- 6.7.9p22: an array of unknown size gets one
-  pub sized : (n : ℕ) × (f.value.t ≡ sized t n)
+  pub sized : (n : ℕ) × (f.value.t ≡ with_size t n)
   pub constant : Grown v f.state → lasting ≡ true → AreConstantStores v f.value.t f.value.stores
   pub stored : (os : List ℕ) → Here v os s → AreStored v os f.value.t f.value.stores × Here v os f.state
 
@@ -102,7 +102,7 @@ pub record ObjectIn (v : WholeUnit) (lasting : Bool) (s t : State) : Type 0 wher
   pub stored : (os : List ℕ) → Here v os s → (lasting ≡ false → IsIn (count s) os) → AreStored v os (object_at t.unit (count s)).t (object_at t.unit (count s)).inits × Here v os t
 
 module _ (v : WholeUnit) (done : IsFinished v) (apart : (o : ℕ) → (object_at v o).name ≢ heap_name)
-    (initial : (lasting : Bool) (t : Ty) (i : InitializerTree) (s : State) → InitializerCharacters i → s.unevaluated ≡ false → Gives ⊥ v [] (IsProper v t) s (GivenIn v lasting t s) (initialized lasting t i s)) where
+    (initial : (lasting : Bool) (t : Ty) (i : InitializerTree) (s : State) → InitializerCharacters i → s.unevaluated ≡ false → Gives ⊥ v [] (IsProper v t) s (GivenIn v lasting t s) (typed_initializer lasting t i s)) where
   abbrev fresh_object : ℕ → ℕ → Ty → Bool → TypedObject
   fresh_object n line t lasting = record { name = unit_name n; t = t; line = line; lasting = lasting; braced = false; inits = [] }
 
@@ -204,11 +204,11 @@ module _ (v : WholeUnit) (done : IsFinished v) (apart : (o : ℕ) → (object_at
 
   -- 6.7.9p22: it is as large as before
   grown-given : (n line : ℕ) (t : Ty) (lasting : Bool) (s : State) (f : After Given) → Moves ⊥ v [] (new_object n line t lasting s) f.state
-      → (m : ℕ) × (f.value.t ≡ sized (object_at (new_object n line t lasting s).unit (count s)).t m) → Grown v (with_given (count s) f.value f.state) → Grown v f.state
+      → (m : ℕ) × (f.value.t ≡ with_size (object_at (new_object n line t lasting s).unit (count s)).t m) → Grown v (with_given (count s) f.value f.state) → Grown v f.state
   grown-given n line t lasting s f m h k =
       let at = ap (λ (x : TypedObject). x.t) (m.older (count s) (new-counted n line t lasting s)) in
       grown-set v (count s) (changed f.value (object_at f.state.unit (count s))) f.state
-      (subst (λ w. or_zero (size_in f.state.unit (object_at f.state.unit (count s)).t) ≤ or_zero (size_in f.state.unit w)) (ap (λ w. sized w h.0) at ∙ sym h.1) (size-sized (env f.state) (object_at f.state.unit (count s)).t h.0)) k
+      (subst (λ w. or_zero (size_in f.state.unit (object_at f.state.unit (count s)).t) ≤ or_zero (size_in f.state.unit w)) (ap (λ w. with_size w h.0) at ∙ sym h.1) (size-sized (env f.state) (object_at f.state.unit (count s)).t h.0)) k
 
   -- behind the initializer
   given-end : (n line : ℕ) (t : Ty) (lasting : Bool) (s : State) (f : After Given)
@@ -255,7 +255,7 @@ module _ (v : WholeUnit) (done : IsFinished v) (apart : (o : ℕ) → (object_at
       → StateGives v (IsProper v t) s (ObjectIn v lasting s) (with_initializer lasting (count s) i (new_object n line t lasting s))
   initialized-object n line t lasting Absent s c ev = plain-object n line t lasting s
   initialized-object n line t lasting (Present (OfInitializer i)) s c ev =
-      given-object n line t lasting s (initialized lasting (object_at (new_object n line t lasting s).unit (count s)).t i (new_object n line t lasting s))
+      given-object n line t lasting s (typed_initializer lasting (object_at (new_object n line t lasting s).unit (count s)).t i (new_object n line t lasting s))
       (initial lasting (object_at (new_object n line t lasting s).unit (count s)).t i (new_object n line t lasting s) c ev)
   initialized-object n line t lasting (Present (OfExpression x)) s c ev = state-none v (IsProper v t) s (ObjectIn v lasting s)
   initialized-object n line t lasting (Present (OfDeclaration x)) s c ev = state-none v (IsProper v t) s (ObjectIn v lasting s)
@@ -265,7 +265,7 @@ module _ (v : WholeUnit) (done : IsFinished v) (apart : (o : ℕ) → (object_at
 
   -- 6.7p3, 6.2.1p7
   object-gives : (lasting : Bool) (t : Ty) (n : ℕ × ℕ) (i : OptionalTree) (s : State) → OptionalCharacters i → s.unevaluated ≡ false → StateGives v (IsProper v t) s (ObjectIn v lasting s) (block_object lasting t n i s)
-  object-gives lasting t n i s c ev = by (is_some (find (innermost s.scopes).names n.0))
+  object-gives lasting t n i s c ev = by (is_some (find (innermost_scope s.scopes).names n.0))
     where
       by : (b : Bool) → StateGives v (IsProper v t) s (ObjectIn v lasting s) (if b then None else with_initializer lasting (count s) i (new_object n.0 n.1 t lasting s))
       by true = state-none v (IsProper v t) s (ObjectIn v lasting s)
@@ -378,28 +378,28 @@ module _ (v : WholeUnit) (done : IsFinished v) (apart : (o : ℕ) → (object_at
 
   type-gives-in : (unsized : Bool) (t : Ty) (d : DeclaratorTree) (s : State) (os : List ℕ) → Gives U v os (IsProper v t) s IsDeclaredType (type_declared unsized t d s)
   type-gives-in unsized t d s os =
-      gives-then U v os (IsProper v t) s (AreNamedSteps v os done (is_file_scope s) d) IsDeclaredType (steps d s) (λ a. give (and_then (derived unsized (env a.state) a.value.list t) (with_unsized (has_unsized a.value.list))) a.state)
+      gives-then U v os (IsProper v t) s (AreNamedSteps v os done (is_file_scope s) d) IsDeclaredType (steps d s) (λ a. give (and_then (derived_type unsized (env a.state) a.value.list t) (with_unsized (has_unsized a.value.list))) a.state)
       (gives-weaker U U U (IsProper v t) v os s (AreNamedSteps v os done (is_file_scope s) d) (AreNamedSteps v os done (is_file_scope s) d) (steps d s) (λ f. f) (λ p. tt) (λ a q. q) (steps-give v os done d s))
-      (λ a m. gives-here U v os (IsProper v t × AreNamedSteps v os done (is_file_scope s) d a) a.state IsDeclaredType (and_then (derived unsized (env a.state) a.value.list t) (with_unsized (has_unsized a.value.list)))
+      (λ a m. gives-here U v os (IsProper v t × AreNamedSteps v os done (is_file_scope s) d a) a.state IsDeclaredType (and_then (derived_type unsized (env a.state) a.value.list t) (with_unsized (has_unsized a.value.list)))
       (λ x e l p g.
-      let k = from-some (derived unsized (env a.state) a.value.list t) (with_unsized (has_unsized a.value.list)) x e in
+      let k = from-some (derived_type unsized (env a.state) a.value.list t) (with_unsized (has_unsized a.value.list)) x e in
       as-made (λ (y : DeclaredType). is_function y.t ≡ false → IsProper v y.t) (record { t = k.0; unsized = has_unsized a.value.list }) x
       (λ f. derived-named v (env a.state) l.unit.layouts unsized a.value.list t k.0 p.1.0.behind p.0 k.1 f) k.2))
 
   specified-gives-in : (specs : Trees) (s : State) (os : List ℕ) → Gives U v os U s (λ (a : After Specified). IsProper v a.value.t) (specified_by specs s)
   specified-gives-in specs s os =
-      gives-then U v os U s (IsSeen v os done) (λ (a : After Specified). IsProper v a.value.t) (specifiers specs s) (λ a. give (specified a.value) a.state) (specifiers-give v os done specs s)
-      (λ a m. gives-here U v os (U × IsSeen v os done a) a.state (λ (b : After Specified). IsProper v b.value.t) (specified a.value) (λ x e l p g. specified-proper v a.value x p.1 e))
+      gives-then U v os U s (IsSeen v os done) (λ (a : After Specified). IsProper v a.value.t) (specifiers specs s) (λ a. give (specification_of a.value) a.state) (specifiers-give v os done specs s)
+      (λ a m. gives-here U v os (U × IsSeen v os done a) a.state (λ (b : After Specified). IsProper v b.value.t) (specification_of a.value) (λ x e l p g. specified-proper v a.value x p.1 e))
 
   one-declared : (lasting : Bool) (t : Ty) (s : State) (r : After (List Reached)) (a : After DeclaredType) (n : ℕ × ℕ) → Moves ⊥ v [] s r.state → Moves ⊥ v [] r.state a.state → (o : Option State) → StateGives v (IsProper v a.value.t) a.state (ObjectIn v lasting a.state) o → is_function a.value.t ≡ false
-      → Gives ⊥ v [] ((IsProper v t × ReachedIn s r) × (IsDeclaredType a × Keeps r.state a)) a.state (ReachedIn s) (and_then o (give (Some (r.value ++ reached lasting (count a.state) n))))
+      → Gives ⊥ v [] ((IsProper v t × ReachedIn s r) × (IsDeclaredType a × Keeps r.state a)) a.state (ReachedIn s) (and_then o (give (Some (r.value ++ reached_object lasting (count a.state) n))))
   one-declared lasting t s r a n i j None h f = gives-none ⊥ v [] _ a.state (ReachedIn s)
   one-declared lasting t s r a n i j (Some u) h f =
       let z = h.held u refl in
-      gives-some ⊥ v [] _ a.state (ReachedIn s) (record { value = r.value ++ reached lasting (count a.state) n; state = u }) z.0
+      gives-some ⊥ v [] _ a.state (ReachedIn s) (record { value = r.value ++ reached_object lasting (count a.state) n; state = u }) z.0
       (λ l p g. let w = z.1 l (p.1.0 f) g in (w.0, ends lasting l p.0.1 p.1.1 z.0 w.1, w.2))
     where
-      ends : (b : Bool) → Later u v → ReachedIn s r → ((os : List ℕ) → Here v os r.state → Here v os a.state) → Moves ⊥ v [] a.state u → ObjectIn v b a.state u → ReachedIn s (record { value = r.value ++ reached b (count a.state) n; state = u })
+      ends : (b : Bool) → Later u v → ReachedIn s r → ((os : List ℕ) → Here v os r.state → Here v os a.state) → Moves ⊥ v [] a.state u → ObjectIn v b a.state u → ReachedIn s (record { value = r.value ++ reached_object b (count a.state) n; state = u })
       ends true l q keep m o =
           subst (λ xs. ReachedIn s (record { value = xs; state = u })) (sym (append-nil r.value)) (static-reached s a.state u r (then-moves ⊥ v [] r.state a.state u j m) refl q keep o)
       ends false l q keep m o = automatic-reached s a.state u r n.1 i j (then-moves ⊥ v [] r.state a.state u j m) l q keep o
@@ -460,14 +460,14 @@ module _ (v : WholeUnit) (done : IsFinished v) (apart : (o : ℕ) → (object_at
       let r = h.held a refl in
       gives-some ⊥ v [] U s (ReachedIn s) (record { value = []; state = a.state }) r.0 (λ l p g. let z = r.1 l p g in (z.0, none-reached s a.state z.1.1, z.2))
 
-  composite-keeps : (u : Bool) (n : ℕ) (s : State) → Gives ⊥ v [] U s (λ (a : After Ty). IsProper v a.value × Keeps s a) (composite_named u n (find (innermost s.scopes).tags n) s)
+  composite-keeps : (u : Bool) (n : ℕ) (s : State) → Gives ⊥ v [] U s (λ (a : After Ty). IsProper v a.value × Keeps s a) (composite_named u n (find (innermost_scope s.scopes).tags n) s)
   composite-keeps u n s =
-      always-gives v U s (λ (a : After Ty). IsProper v a.value) (composite_named u n (find (innermost s.scopes).tags n) s)
-      (λ os. composite-gives U v os U u n (find (innermost s.scopes).tags n) s (λ g k e. inner-tag v s g n k e))
+      always-gives v U s (λ (a : After Ty). IsProper v a.value) (composite_named u n (find (innermost_scope s.scopes).tags n) s)
+      (λ os. composite-gives U v os U u n (find (innermost_scope s.scopes).tags n) s (λ g k e. inner-tag v s g n k e))
 
   tag-alone : (w : Word) (n : ℕ) (s : State) → Gives ⊥ v [] U s (ReachedIn s) (and_then (tag_alone w n s) (give (Some [])))
-  tag-alone word.Struct n s = composite-alone false n s (composite_named false n (find (innermost s.scopes).tags n) s) (composite-keeps false n s)
-  tag-alone word.Union n s = composite-alone true n s (composite_named true n (find (innermost s.scopes).tags n) s) (composite-keeps true n s)
+  tag-alone word.Struct n s = composite-alone false n s (composite_named false n (find (innermost_scope s.scopes).tags n) s) (composite-keeps false n s)
+  tag-alone word.Union n s = composite-alone true n s (composite_named true n (find (innermost_scope s.scopes).tags n) s) (composite-keeps true n s)
   tag-alone _ n s = gives-none ⊥ v [] U s (ReachedIn s)
 
   alone-gives : (tag : Option (Word × ℕ)) (specs : Trees) (s : State) → Gives ⊥ v [] U s (ReachedIn s) (block_alone tag specs s)

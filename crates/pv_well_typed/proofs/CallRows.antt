@@ -7,9 +7,9 @@ use Rattle.pv_types.specs.Ty.{Ty, Tys, NoTys, MoreTys, VoidTy, IntTy, PointerTo,
 use Rattle.pv_typed.specs.Known.{Each}
 use Rattle.pv_typed.specs.TypedTree.{TypedTree, Call, CallPointer, LibraryCall, arguments_of, type_of}
 use Rattle.pv_typed.specs.TypedUnits.{WholeUnit, layouts, function_at}
-use Rattle.pv_types.specs.Sorts.{pointed_by, is_void, bare}
-use Rattle.pv_check.specs.Values.{written, promoted_value, assigned}
-use Rattle.pv_check.specs.Calls.{further, passed, may_pass, called, call_at, call_to}
+use Rattle.pv_types.specs.Sorts.{pointed_by, is_void, bare_type}
+use Rattle.pv_check.specs.Values.{source_node, promoted_value, as_if_assigned}
+use Rattle.pv_check.specs.Calls.{further_argument, passed_arguments, may_pass, typed_call, call_at, call_to}
 use Rattle.pv_check.specs.CallParts.{more, library_call, program_call, pointed_call, call_through, call_of}
 use Rattle.pv_guards.specs.Typed.{IsValueType, AreLike, IsSignature, HasBody, ArePassed}
 use Rattle.pv_well_typed.specs.Proper.{IsProper}
@@ -42,7 +42,7 @@ module _ (E : Type 0) (v : WholeUnit) (os : List ℕ) where
     converted : IsConverted E v os (type_of a) a
     value : IsValueType (type_of a)
 
-  further-row : (a : TypedTree) → IsOperand E v os a → (x : TypedTree) → further a ≡ Some x → IsFurther x
+  further-row : (a : TypedTree) → IsOperand E v os a → (x : TypedTree) → further_argument a ≡ Some x → IsFurther x
   further-row a h x e = by (is_void (type_of a)) refl e
     where
       by : (b : Bool) → is_void (type_of a) ≡ b → (if b then None else Some (promoted_value a)) ≡ Some x → IsFurther x
@@ -52,22 +52,22 @@ module _ (E : Type 0) (v : WholeUnit) (os : List ℕ) where
           as-made IsFurther (promoted_value a) x (record { converted = r.0; value = r.1 }) e
 
   -- 6.5.2.2p2, p7: the arguments of a call
-  pub passed-row : (ts : Tys) (variadic : Bool) (args : List TypedTree) → Each (IsOperand E v os) args → (xs : List TypedTree) → passed ts variadic args ≡ Some xs → E → ArePassed v os ts variadic (arguments_of xs)
+  pub passed-row : (ts : Tys) (variadic : Bool) (args : List TypedTree) → Each (IsOperand E v os) args → (xs : List TypedTree) → passed_arguments ts variadic args ≡ Some xs → E → ArePassed v os ts variadic (arguments_of xs)
   passed-row NoTys true [] h xs e i = subst (λ ys. ArePassed v os NoTys true (arguments_of ys)) (some-same [] xs e) tt
   passed-row NoTys false [] h xs e i = subst (λ ys. ArePassed v os NoTys false (arguments_of ys)) (some-same [] xs e) tt
   passed-row NoTys true (a ∷ rest) h xs e i =
-      let m = some-more (further a) (passed NoTys true rest) xs e in
+      let m = some-more (further_argument a) (passed_arguments NoTys true rest) xs e in
       let f = further-row a h.0 m.first m.one in
       subst (λ ys. ArePassed v os NoTys true (arguments_of ys)) m.is
       (f.converted.typed i, has-type E v os (type_of m.first) m.first f.converted, f.value, passed-row NoTys true rest h.1 m.rest m.others i)
   passed-row NoTys false (a ∷ rest) h xs e i = absurd cc
   passed-row (MoreTys t ts) variadic [] h xs e i = absurd cc
   passed-row (MoreTys t ts) variadic (a ∷ rest) h xs e i =
-      let m = some-more (assigned t a) (passed ts variadic rest) xs e in
+      let m = some-more (as_if_assigned t a) (passed_arguments ts variadic rest) xs e in
       let q = assigned-row E v os t a h.0 m.first m.one in
       subst (λ ys. ArePassed v os (MoreTys t ts) variadic (arguments_of ys)) m.is (
         q.converted.typed i,
-        has-type E v os (bare t) m.first q.converted,
+        has-type E v os (bare_type t) m.first q.converted,
         q.value,
         passed-row ts variadic rest h.1 m.rest m.others i,
       )
@@ -77,13 +77,13 @@ module _ (E : Type 0) (v : WholeUnit) (os : List ℕ) where
 
     module _ (u : WholeUnit) (f : ℕ) where
       -- 7.1.4p1: one of the library
-      library-row : (l : Library) (t : Ty) (ts : Tys) (c : Bool) → IsLibraryType v l (FunctionTy t ts c) → (o : Option (List TypedTree)) → passed ts c args ≡ o
+      library-row : (l : Library) (t : Ty) (ts : Tys) (c : Bool) → IsLibraryType v l (FunctionTy t ts c) → (o : Option (List TypedTree)) → passed_arguments ts c args ≡ o
           → (x : TypedTree) → library_call u line l t o ≡ Some x → IsExpression E v os x
       library-row l t ts c h None p x e = absurd cc
       library-row l t ts c h (Some xs) p x e = by (may_pass u l xs) e
         where
-          by : (b : Bool) → (if b then Some (written line t (LibraryCall l (arguments_of xs))) else None) ≡ Some x → IsExpression E v os x
-          by true e = as-made (IsExpression E v os) (written line t (LibraryCall l (arguments_of xs))) x (record {
+          by : (b : Bool) → (if b then Some (source_node line t (LibraryCall l (arguments_of xs))) else None) ≡ Some x → IsExpression E v os x
+          by true e = as-made (IsExpression E v os) (source_node line t (LibraryCall l (arguments_of xs))) x (record {
             typed = λ i. (ts, c, h.0, passed-row ts c args all xs p i);
             proper = h.2;
             valued = λ n. (refl, h.1);
@@ -92,24 +92,24 @@ module _ (E : Type 0) (v : WholeUnit) (os : List ℕ) where
 
       -- 6.5.2.2p5: one of the program
       program-row : (t : Ty) (ts : Tys) (c : Bool) → IsProper v (FunctionTy t ts c) × (c ≡ false) → (E → (f < length v.functions) × HasBody v f) → (c ≡ false → IsSignature (function_at v f).t t ts)
-          → (o : Option (List TypedTree)) → passed ts c args ≡ o → (x : TypedTree) → program_call line f t o ≡ Some x → IsExpression E v os x
+          → (o : Option (List TypedTree)) → passed_arguments ts c args ≡ o → (x : TypedTree) → program_call line f t o ≡ Some x → IsExpression E v os x
       program-row t ts c h there signed None p x e = absurd cc
-      program-row t ts c h there signed (Some xs) p x e = as-made (IsExpression E v os) (written line t (Call f (arguments_of xs))) x (record {
+      program-row t ts c h there signed (Some xs) p x e = as-made (IsExpression E v os) (source_node line t (Call f (arguments_of xs))) x (record {
         typed = λ i. (ts, ((there i).0, (there i).1, signed h.1), subst (λ b. ArePassed v os ts b (arguments_of xs)) h.1 (passed-row ts c args all xs p i));
         proper = h.0.1;
         valued = λ n. (refl, h.0.0);
       }) e
 
       either-row : (o : Option Library) (t : Ty) (ts : Tys) (c : Bool) → HasFunctionType v o (FunctionTy t ts c) → (o ≡ None → E → (f < length v.functions) × HasBody v f) → (c ≡ false → IsSignature (function_at v f).t t ts)
-          → (x : TypedTree) → called u line f o t (passed ts c args) ≡ Some x → IsExpression E v os x
-      either-row (Some l) t ts c h there signed x e = library-row l t ts c h (passed ts c args) refl x e
-      either-row None t ts c h there signed x e = program-row t ts c h (there refl) signed (passed ts c args) refl x e
+          → (x : TypedTree) → typed_call u line f o t (passed_arguments ts c args) ≡ Some x → IsExpression E v os x
+      either-row (Some l) t ts c h there signed x e = library-row l t ts c h (passed_arguments ts c args) refl x e
+      either-row None t ts c h there signed x e = program-row t ts c h (there refl) signed (passed_arguments ts c args) refl x e
 
       call-at-row : (w : Ty) → HasFunctionType v (library_of u f) w → (library_of u f ≡ None → E → (f < length v.functions) × HasBody v f)
           → ((t : Ty) (ts : Tys) → w ≡ FunctionTy t ts false → IsSignature (function_at v f).t t ts) → (x : TypedTree) → call_at u line f w args ≡ Some x → IsExpression E v os x
       call-at-row (FunctionTy t ts c) h there signed x e = by (is_void t || is_complete_in (layouts u) t) e
         where
-          by : (b : Bool) → (if b then called u line f (library_of u f) t (passed ts c args) else None) ≡ Some x → IsExpression E v os x
+          by : (b : Bool) → (if b then typed_call u line f (library_of u f) t (passed_arguments ts c args) else None) ≡ Some x → IsExpression E v os x
           by true e = either-row (library_of u f) t ts c h there (λ q. signed t ts (ap (FunctionTy t ts) q)) x e
           by false e = absurd cc
       call-at-row VoidTy h there signed x e = absurd cc
@@ -127,12 +127,12 @@ module _ (E : Type 0) (v : WholeUnit) (os : List ℕ) where
     -- ---- 6.5.2.2p1: by a value
 
     module _ (u : WholeUnit) (a : TypedTree) (callee : IsOperand E v os a) where
-      pointed-row : (t : Ty) (ts : Tys) (c : Bool) → type_of a ≡ PointerTo (FunctionTy t ts c) → (o : Option (List TypedTree)) → passed ts c args ≡ o
+      pointed-row : (t : Ty) (ts : Tys) (c : Bool) → type_of a ≡ PointerTo (FunctionTy t ts c) → (o : Option (List TypedTree)) → passed_arguments ts c args ≡ o
           → (x : TypedTree) → pointed_call line a t o ≡ Some x → IsExpression E v os x
       pointed-row t ts c is None p x e = absurd cc
       pointed-row t ts c is (Some xs) p x e =
           let h : IsProper v (FunctionTy t ts c) = subst (IsProper v) is callee.proper in
-          as-made (IsExpression E v os) (written line t (CallPointer a (arguments_of xs))) x (record {
+          as-made (IsExpression E v os) (source_node line t (CallPointer a (arguments_of xs))) x (record {
             typed = λ i. (
               t,
               ts,
@@ -151,8 +151,8 @@ module _ (E : Type 0) (v : WholeUnit) (os : List ℕ) where
       call-to-row None p x e = absurd cc
       call-to-row (Some (FunctionTy t ts c)) p x e = by (is_void t || is_complete_in (layouts u) t) e
         where
-          by : (b : Bool) → (if b then pointed_call line a t (passed ts c args) else None) ≡ Some x → IsExpression E v os x
-          by true e = pointed-row t ts c (pointed-type (type_of a) (FunctionTy t ts c) callee.plain p) (passed ts c args) refl x e
+          by : (b : Bool) → (if b then pointed_call line a t (passed_arguments ts c args) else None) ≡ Some x → IsExpression E v os x
+          by true e = pointed-row t ts c (pointed-type (type_of a) (FunctionTy t ts c) callee.plain p) (passed_arguments ts c args) refl x e
           by false e = absurd cc
       call-to-row (Some VoidTy) p x e = absurd cc
       call-to-row (Some (IntTy k)) p x e = absurd cc

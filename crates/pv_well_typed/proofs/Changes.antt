@@ -16,8 +16,8 @@ use Rattle.pv_typed.specs.UnitParts.{no_literal, no_object}
 use Rattle.pv_check.specs.Primary.{with_use}
 use Rattle.pv_check.specs.StringLiterals.{text_of}
 use Rattle.pv_check.specs.State.{State, Scope, Meaning, TagMeaning, Used}
-use Rattle.pv_check.specs.Scopes.{no_scope, find, look, look_tag, look_by, innermost, bind, bind_tag, entered}
-use Rattle.pv_check.specs.ScopeParts.{bound, names_in, tags_in}
+use Rattle.pv_check.specs.Scopes.{no_scope, find, look, look_tag, look_by, innermost_scope, bind, bind_tag, in_new_scope}
+use Rattle.pv_check.specs.ScopeParts.{with_meaning, names_in, tags_in}
 use Rattle.std.specs.Option.{option_or}
 use Rattle.pv_guards.specs.Typed.{IsIn}
 use Rattle.pv_well_typed.specs.Proper.{IsProper}
@@ -54,7 +54,7 @@ take-set (x ∷ xs) (suc i) y = ap (λ ys. x ∷ ys) (take-set xs i y)
 -- ---- names
 
 -- a name that has a meaning has one still where another one gets one
-pub find-bound : {M : Type 0} (n k : ℕ) (m : M) (es : List (ℕ × M)) → is_some (find es k) ≡ true → is_some (find (bound n m es) k) ≡ true
+pub find-bound : {M : Type 0} (n k : ℕ) (m : M) (es : List (ℕ × M)) → is_some (find es k) ≡ true → is_some (find (with_meaning n m es) k) ≡ true
 find-bound n k m [] h = absurd cc
 find-bound {M} n k m (x ∷ es) h = by (nat_eq n x.0) (find-bound n k m es) h
   where
@@ -62,28 +62,28 @@ find-bound {M} n k m (x ∷ es) h = by (nat_eq n x.0) (find-bound n k m es) h
     same true h = refl
     same false h = h
 
-    later : (c : Bool) → (is_some (find es k) ≡ true → is_some (find (bound n m es) k) ≡ true) → is_some (if c then Some x.1 else find es k) ≡ true → is_some (if c then Some x.1 else find (bound n m es) k) ≡ true
+    later : (c : Bool) → (is_some (find es k) ≡ true → is_some (find (with_meaning n m es) k) ≡ true) → is_some (if c then Some x.1 else find es k) ≡ true → is_some (if c then Some x.1 else find (with_meaning n m es) k) ≡ true
     later true r h = refl
     later false r h = r h
 
-    by : (b : Bool) → (is_some (find es k) ≡ true → is_some (find (bound n m es) k) ≡ true) → is_some (find (x ∷ es) k) ≡ true → is_some (find (if b then (x.0, m) ∷ es else x ∷ bound n m es) k) ≡ true
+    by : (b : Bool) → (is_some (find es k) ≡ true → is_some (find (with_meaning n m es) k) ≡ true) → is_some (find (x ∷ es) k) ≡ true → is_some (find (if b then (x.0, m) ∷ es else x ∷ with_meaning n m es) k) ≡ true
     by true r h = same (nat_eq k x.0) h
     by false r h = later (nat_eq k x.0) r h
 
 -- and the one that gets it
-pub find-itself : {M : Type 0} (n : ℕ) (m : M) (es : List (ℕ × M)) → is_some (find (bound n m es) n) ≡ true
+pub find-itself : {M : Type 0} (n : ℕ) (m : M) (es : List (ℕ × M)) → is_some (find (with_meaning n m es) n) ≡ true
 find-itself {M} n m [] = subst (λ b. is_some (if b then Some m else None) ≡ true) (sym (eq-eqb n n refl)) refl
 find-itself {M} n m (x ∷ es) = by (nat_eq n x.0) refl (find-itself n m es)
   where
-    by : (b : Bool) → nat_eq n x.0 ≡ b → is_some (find (bound n m es) n) ≡ true → is_some (find (if b then (x.0, m) ∷ es else x ∷ bound n m es) n) ≡ true
+    by : (b : Bool) → nat_eq n x.0 ≡ b → is_some (find (with_meaning n m es) n) ≡ true → is_some (find (if b then (x.0, m) ∷ es else x ∷ with_meaning n m es) n) ≡ true
     by true e r = subst (λ b. is_some (if b then Some m else find es n) ≡ true) (sym e) refl
-    by false e r = subst (λ b. is_some (if b then Some x.1 else find (bound n m es) n) ≡ true) (sym e) r
+    by false e r = subst (λ b. is_some (if b then Some x.1 else find (with_meaning n m es) n) ≡ true) (sym e) r
 
-pub each-bound : {M : Type 0} (P : M → Type 0) (n : ℕ) (m : M) (es : List (ℕ × M)) → P m → Each (λ (e : ℕ × M). P e.1) es → Each (λ (e : ℕ × M). P e.1) (bound n m es)
+pub each-bound : {M : Type 0} (P : M → Type 0) (n : ℕ) (m : M) (es : List (ℕ × M)) → P m → Each (λ (e : ℕ × M). P e.1) es → Each (λ (e : ℕ × M). P e.1) (with_meaning n m es)
 each-bound P n m [] p h = (p, tt)
 each-bound {M} P n m (e ∷ es) p h = by (nat_eq n e.0) (each-bound P n m es p h.1)
   where
-    by : (b : Bool) → Each (λ (e : ℕ × M). P e.1) (bound n m es) → Each (λ (e : ℕ × M). P e.1) (if b then (e.0, m) ∷ es else e ∷ bound n m es)
+    by : (b : Bool) → Each (λ (e : ℕ × M). P e.1) (with_meaning n m es) → Each (λ (e : ℕ × M). P e.1) (if b then (e.0, m) ∷ es else e ∷ with_meaning n m es)
     by true rest = (p, h.1)
     by false rest = (h.0, rest)
 
@@ -136,50 +136,50 @@ module _ (v : WholeUnit) where
   pub visible-meaning : (os : List ℕ) (ss : List Scope) → AreVisible v os ss → (n : ℕ) (m : Meaning) → look ss n ≡ Some m → IsVisible v os m
   visible-meaning os ss h n m e = look-each names_in (IsVisible v os) n ss h m e
 
-  pub inner-scope : (k : ℕ) (ss : List Scope) → Each (IsScope v k) ss → IsScope v k (innermost ss)
+  pub inner-scope : (k : ℕ) (ss : List Scope) → Each (IsScope v k) ss → IsScope v k (innermost_scope ss)
   inner-scope k ss h = each-at (IsScope v k) no_scope ss (length ss - 1) (tt, tt) h
 
   -- 6.7.2.3: what a tag of the innermost scope designates
-  pub inner-tag : (s : State) → IsProperState v s → (n : ℕ) (m : TagMeaning) → find (innermost s.scopes).tags n ≡ Some m → IsTagMeaning v m
-  inner-tag s h n m e = find-each (IsTagMeaning v) n (innermost s.scopes).tags (inner-scope (length s.unit.functions) s.scopes h.scopes).1 m e
+  pub inner-tag : (s : State) → IsProperState v s → (n : ℕ) (m : TagMeaning) → find (innermost_scope s.scopes).tags n ≡ Some m → IsTagMeaning v m
+  inner-tag s h n m e = find-each (IsTagMeaning v) n (innermost_scope s.scopes).tags (inner-scope (length s.unit.functions) s.scopes h.scopes).1 m e
 
   -- ---- 6.2.1: scopes
 
   pub bind-proper : (n : ℕ) (m : Meaning) (s : State) → IsMeaning v (length s.unit.functions) m → IsProperState v s → IsProperState v (bind n m s)
   bind-proper n m s p h =
       let inner = inner-scope (length s.unit.functions) s.scopes h.scopes in
-      let l = length-set s.scopes (length s.scopes - 1) (record (innermost s.scopes) { names = bound n m (innermost s.scopes).names }) in
+      let l = length-set s.scopes (length s.scopes - 1) (record (innermost_scope s.scopes) { names = with_meaning n m (innermost_scope s.scopes).names }) in
       let some = h.some in
       record {
         unit = h.unit;
         some = omega (arith, l, some);
-        scopes = each-set (IsScope v (length s.unit.functions)) s.scopes (length s.scopes - 1) _ h.scopes (each-bound (IsMeaning v (length s.unit.functions)) n m (innermost s.scopes).names p inner.0, inner.1);
+        scopes = each-set (IsScope v (length s.unit.functions)) s.scopes (length s.scopes - 1) _ h.scopes (each-bound (IsMeaning v (length s.unit.functions)) n m (innermost_scope s.scopes).names p inner.0, inner.1);
       }
 
   pub bind-tag-proper : (n : ℕ) (m : TagMeaning) (s : State) → IsTagMeaning v m → IsProperState v s → IsProperState v (bind_tag n m s)
   bind-tag-proper n m s p h =
       let inner = inner-scope (length s.unit.functions) s.scopes h.scopes in
-      let l = length-set s.scopes (length s.scopes - 1) (record (innermost s.scopes) { tags = bound n m (innermost s.scopes).tags }) in
+      let l = length-set s.scopes (length s.scopes - 1) (record (innermost_scope s.scopes) { tags = with_meaning n m (innermost_scope s.scopes).tags }) in
       let some = h.some in
       record {
         unit = h.unit;
         some = omega (arith, l, some);
-        scopes = each-set (IsScope v (length s.unit.functions)) s.scopes (length s.scopes - 1) _ h.scopes (inner.0, each-bound (IsTagMeaning v) n m (innermost s.scopes).tags p inner.1);
+        scopes = each-set (IsScope v (length s.unit.functions)) s.scopes (length s.scopes - 1) _ h.scopes (inner.0, each-bound (IsTagMeaning v) n m (innermost_scope s.scopes).tags p inner.1);
       }
 
-  inner-visible : (os : List ℕ) (ss : List Scope) → AreVisible v os ss → Each (λ (e : ℕ × Meaning). IsVisible v os e.1) (innermost ss).names
+  inner-visible : (os : List ℕ) (ss : List Scope) → AreVisible v os ss → Each (λ (e : ℕ × Meaning). IsVisible v os e.1) (innermost_scope ss).names
   inner-visible os ss h = each-at (λ (x : Scope). Each (λ (e : ℕ × Meaning). IsVisible v os e.1) x.names) no_scope ss (length ss - 1) tt h
 
   pub bind-visible : (os : List ℕ) (n : ℕ) (m : Meaning) (s : State) → IsVisible v os m → AreVisible v os s.scopes → AreVisible v os (bind n m s).scopes
   bind-visible os n m s p h =
       each-set (λ (x : Scope). Each (λ (e : ℕ × Meaning). IsVisible v os e.1) x.names) s.scopes (length s.scopes - 1) _ h
-      (each-bound (IsVisible v os) n m (innermost s.scopes).names p (inner-visible os s.scopes h))
+      (each-bound (IsVisible v os) n m (innermost_scope s.scopes).names p (inner-visible os s.scopes h))
 
   pub bind-tag-visible : (os : List ℕ) (n : ℕ) (m : TagMeaning) (s : State) → AreVisible v os s.scopes → AreVisible v os (bind_tag n m s).scopes
   bind-tag-visible os n m s h =
       each-set (λ (x : Scope). Each (λ (e : ℕ × Meaning). IsVisible v os e.1) x.names) s.scopes (length s.scopes - 1) _ h (inner-visible os s.scopes h)
 
-  pub entered-proper : (s : State) → IsProperState v s → IsProperState v (entered s)
+  pub entered-proper : (s : State) → IsProperState v s → IsProperState v (in_new_scope s)
   entered-proper s h =
       let l = length-append s.scopes (no_scope ∷ []) in
       record {

@@ -7,7 +7,7 @@ use Rattle.pv_tree.specs.Syntax.{DeclarationTree}
 use Rattle.pv_tree.specs.Units.{SpellUnit}
 use Rattle.pv_typed.specs.Known.{Each}
 use Rattle.pv_typed.specs.TypedUnits.{WholeUnit}
-use Rattle.pv_typed.specs.Tables.{whole}
+use Rattle.pv_typed.specs.Tables.{whole_unit}
 use Rattle.pv_unit.specs.Units as checked
 use Rattle.pv_world.specs.Worlds.{Worth}
 use Rattle.pv_eval.specs.States.{Res}
@@ -53,5 +53,5 @@ pub run-ruled : (source script : List ℕ) → Each (λ b. b < 256) source → (
     → run ≡ plain.run_of (setting_of runs.tables bound sides zap) job.lines
 run-ruled source script bytes job bound zap sides run runs =
     let s = spelled-source source job.unit job.comes in
-    let is : IsChecked source s.tokens s.trees (whole runs.tables) = subst (IsChecked source s.tokens s.trees) (sym runs.stands) (checked-source source job.unit bytes job.short s) in
-    runs.is ∙ run-same (setting_of runs.tables bound sides zap) (typed-lexed source s.tokens s.trees (whole runs.tables) is) job.lines
+    let is : IsChecked source s.tokens s.trees (whole_unit runs.tables) = subst (IsChecked source s.tokens s.trees) (sym runs.stands) (checked-source source job.unit bytes job.short s) in
+    runs.is ∙ run-same (setting_of runs.tables bound sides zap) (typed-lexed source s.tokens s.trees (whole_unit runs.tables) is) job.lines

@@ -8,14 +8,14 @@ use Rattle.pv_types.specs.Matching.{Matches}
 use Rattle.pv_types.specs.Ty.{Ty, VoidTy, IntTy, PointerTo, ArrayOf, StructTag, UnionTag, FunctionTy, ConstOf}
 use Rattle.pv_types.proofs.Matched.{matching_array, matching_result, matching_size}
 use Rattle.pv_typed.specs.TypedUnits.{WholeUnit, layouts}
-use Rattle.pv_check.specs.Composite.{composite}
+use Rattle.pv_check.specs.Composite.{composite_of}
 use Rattle.std.specs.Option.{option_or}
 use Rattle.pv_typed.specs.TypedTree.{is_function}
 use Rattle.pv_well_typed.specs.Proper.{IsValueOrVoid, IsSmallArray, IsProper}
 
 -- ---- sizes: a complete type has the size of its composite type with another
 
-pub composite-complete : (es : List Entry) (t u : Ty) → is_complete_in es t ≡ true → is_complete_in es (composite t u) ≡ true
+pub composite-complete : (es : List Entry) (t u : Ty) → is_complete_in es t ≡ true → is_complete_in es (composite_of t u) ≡ true
 composite-complete es (PointerTo t) (PointerTo u) h = refl
 composite-complete es (ArrayOf t None) (ArrayOf u n) h = absurd cc
 composite-complete es (ArrayOf t (Some m)) (ArrayOf u n) h =
@@ -29,7 +29,7 @@ composite-complete es (FunctionTy t ts c) (FunctionTy u us d) h = absurd cc
 composite-complete es (ConstOf t) (ConstOf u) h = composite-complete es t u h
 composite-complete es _ _ h = h
 
-pub composite-size : (es : List Entry) (t u : Ty) → is_complete_in es t ≡ true → (layout_in es (composite t u)).size ≡ (layout_in es t).size
+pub composite-size : (es : List Entry) (t u : Ty) → is_complete_in es t ≡ true → (layout_in es (composite_of t u)).size ≡ (layout_in es t).size
 composite-size es (PointerTo t) (PointerTo u) h = refl
 composite-size es (ArrayOf t None) (ArrayOf u n) h = absurd cc
 composite-size es (ArrayOf t (Some m)) (ArrayOf u n) h = ap (λ s. m * s) (composite-size es t u (right (nat_lt 0 m) (is_complete_in es t) h))
@@ -43,14 +43,14 @@ composite-size es _ _ h = refl
 
 -- ---- the layers of a type
 
-pub composite-plain : (t u : Ty) → IsValueOrVoid t → IsValueOrVoid (composite t u)
+pub composite-plain : (t u : Ty) → IsValueOrVoid t → IsValueOrVoid (composite_of t u)
 composite-plain (PointerTo t) (PointerTo u) h = tt
 composite-plain (ArrayOf t m) (ArrayOf u n) h = absurd h
 composite-plain (FunctionTy t ts c) (FunctionTy u us d) h = absurd h
 composite-plain (ConstOf t) (ConstOf u) h = absurd h
 composite-plain _ _ h = h
 
-pub composite-no-function : (t u : Ty) → is_function t ≡ false → is_function (composite t u) ≡ false
+pub composite-no-function : (t u : Ty) → is_function t ≡ false → is_function (composite_of t u) ≡ false
 composite-no-function (PointerTo t) (PointerTo u) h = refl
 composite-no-function (ArrayOf t m) (ArrayOf u n) h = refl
 composite-no-function (FunctionTy t ts c) (FunctionTy u us d) h = absurd cc
@@ -70,13 +70,13 @@ matching-const t u h = record { left = _; right = _; same = h.same }
 
 module _ (v : WholeUnit) where
   -- 6.7.6.2: a size that one of the two knows
-  small-array : (t u : Ty) (m n : Option ℕ) → Matches t u → is_complete_in (layouts v) t ≡ true → is_complete_in (layouts v) u ≡ true → IsSmallArray v t m → IsSmallArray v u n → IsSmallArray v (composite t u) (option_or m n)
+  small-array : (t u : Ty) (m n : Option ℕ) → Matches t u → is_complete_in (layouts v) t ≡ true → is_complete_in (layouts v) u ≡ true → IsSmallArray v t m → IsSmallArray v u n → IsSmallArray v (composite_of t u) (option_or m n)
   small-array t u (Some m) n same p q h g = subst (λ s. m * s ≤ 2 ^ 32) (sym (composite-size (layouts v) t u p)) h
   small-array t u None None same p q h g = tt
   small-array t u None (Some n) same p q h g =
       subst (λ s. n * s ≤ 2 ^ 32) (sym (composite-size (layouts v) t u p ∙ matching_size (layouts v) t u same p q)) g
 
-  pub proper-composite : (t u : Ty) → Matches t u → IsProper v t → IsProper v u → IsProper v (composite t u)
+  pub proper-composite : (t u : Ty) → Matches t u → IsProper v t → IsProper v u → IsProper v (composite_of t u)
   proper-composite (PointerTo t) (PointerTo u) same h g = proper-composite t u (matching-pointer t u same) h g
   proper-composite (ArrayOf t m) (ArrayOf u n) same h g =
       let inner = matching_array t u m n same in

@@ -7,16 +7,16 @@ use Rattle.pv_types.proofs.Matched.{matching}
 use Rattle.pv_typed.specs.Addresses.{is_null_constant}
 use Rattle.pv_typed.specs.TypedTree.{TypedTree, Conditional, type_of, is_function}
 use Rattle.pv_typed.specs.TypedUnits.{WholeUnit}
-use Rattle.pv_check.specs.Kinds.{common}
+use Rattle.pv_check.specs.Kinds.{common_kind}
 use Rattle.pv_types.specs.Qualifiers.{is_const}
 use Rattle.pv_check.specs.Qualified.{qualified_if}
 use Rattle.pv_types.specs.SameTypes.{same_type as same}
 use Rattle.pv_check.specs.Sorts.{are_alike, has_void}
-use Rattle.pv_types.specs.Sorts.{is_scalar, bare}
-use Rattle.pv_check.specs.Composite.{composite}
-use Rattle.pv_check.specs.Values.{written, converted}
+use Rattle.pv_types.specs.Sorts.{is_scalar, bare_type}
+use Rattle.pv_check.specs.Composite.{composite_of}
+use Rattle.pv_check.specs.Values.{source_node, conversion_to}
 use Rattle.pv_check.specs.Conditional.{pointer_type, result_type, conditional_of}
-use Rattle.pv_check.specs.ConditionalParts.{pointer_to, merged, type_of_chosen, chosen}
+use Rattle.pv_check.specs.ConditionalParts.{pointer_to, pointer_of_both, type_of_chosen, chosen_node}
 use Rattle.pv_check.proofs.Same.{same_equal, same_itself}
 use Rattle.pv_guards.specs.Typed.{IsScalarType, MayConvert}
 use Rattle.pv_well_typed.specs.Proper.{IsValueOrVoid, IsProper}
@@ -37,7 +37,7 @@ chosen-as v t u q r h e = subst (IsChosen v t u) (some-same q r e) h
 
 -- ---- 6.5.15p6: what two pointers give
 
-is-constant : (t : Ty) → is_const t ≡ true → (v : WholeUnit) → IsProper v t → IsValueOrVoid (bare t)
+is-constant : (t : Ty) → is_const t ≡ true → (v : WholeUnit) → IsProper v t → IsValueOrVoid (bare_type t)
 is-constant (ConstOf t) e v h = subst IsValueOrVoid (sym (plain-bare t h.0)) h.0
 is-constant VoidTy e v h = absurd cc
 is-constant (IntTy k) e v h = absurd cc
@@ -59,34 +59,34 @@ plain-no-function (ConstOf t) h = refl
 
 module _ (v : WholeUnit) where
   -- with `const` where one of the two has it, and so no function
-  proper-merged : (t u : Ty) → IsProper v t → IsProper v u → are_alike t u ≡ true → IsProper v (qualified_if (is_const t || is_const u) (composite (bare t) (bare u)))
+  proper-merged : (t u : Ty) → IsProper v t → IsProper v u → are_alike t u ≡ true → IsProper v (qualified_if (is_const t || is_const u) (composite_of (bare_type t) (bare_type u)))
   proper-merged t u h g e = by (is_const t) (is_const u) refl refl
     where
       c : Ty
-      c = composite (bare t) (bare u)
+      c = composite_of (bare_type t) (bare_type u)
 
-      proper : IsProper v (composite (bare t) (bare u))
-      proper = proper-composite v (bare t) (bare u) (matching (bare t) (bare u) e) (proper-bare v t h) (proper-bare v u g)
+      proper : IsProper v (composite_of (bare_type t) (bare_type u))
+      proper = proper-composite v (bare_type t) (bare_type u) (matching (bare_type t) (bare_type u) e) (proper-bare v t h) (proper-bare v u g)
 
-      by : (a b : Bool) → is_const t ≡ a → is_const u ≡ b → IsProper v (qualified_if (a || b) (composite (bare t) (bare u)))
+      by : (a b : Bool) → is_const t ≡ a → is_const u ≡ b → IsProper v (qualified_if (a || b) (composite_of (bare_type t) (bare_type u)))
       by true b p q =
-          proper-qualified-if v true (composite (bare t) (bare u)) proper
-          (composite-no-function (bare t) (bare u) (plain-no-function (bare t) (is-constant t p v h)))
+          proper-qualified-if v true (composite_of (bare_type t) (bare_type u)) proper
+          (composite-no-function (bare_type t) (bare_type u) (plain-no-function (bare_type t) (is-constant t p v h)))
       by false true p q =
-          proper-qualified-if v true (composite (bare t) (bare u)) proper
-          (composite-no-function (bare t) (bare u) (both-functions (bare t) (bare u) (is-constant u q v g) e))
+          proper-qualified-if v true (composite_of (bare_type t) (bare_type u)) proper
+          (composite-no-function (bare_type t) (bare_type u) (both-functions (bare_type t) (bare_type u) (is-constant u q v g) e))
       by false false p q = proper
 
   pointers-made : (t u w r : Ty) → IsProper v w → Some (PointerTo w) ≡ Some r → IsChosen v (PointerTo t) (PointerTo u) r
   pointers-made t u w r p e = chosen-as v (PointerTo t) (PointerTo u) (PointerTo w) r (record { left = λ n. tt; right = λ n. tt; proper = p; plain = tt }) e
 
-  merged-row : (t u : Ty) → IsProper v t → IsProper v u → (r : Ty) → merged t u ≡ Some r → IsChosen v (PointerTo t) (PointerTo u) r
+  merged-row : (t u : Ty) → IsProper v t → IsProper v u → (r : Ty) → pointer_of_both t u ≡ Some r → IsChosen v (PointerTo t) (PointerTo u) r
   merged-row t u h g r e = by (are_alike t u) (has_void t u) refl e
     where
       by : (a b : Bool) → are_alike t u ≡ a
-          → (if a then Some (pointer_to (is_const t || is_const u) (composite (bare t) (bare u))) else (if b then Some (pointer_to (is_const t || is_const u) VoidTy) else None)) ≡ Some r
+          → (if a then Some (pointer_to (is_const t || is_const u) (composite_of (bare_type t) (bare_type u))) else (if b then Some (pointer_to (is_const t || is_const u) VoidTy) else None)) ≡ Some r
           → IsChosen v (PointerTo t) (PointerTo u) r
-      by true b p e = pointers-made t u (qualified_if (is_const t || is_const u) (composite (bare t) (bare u))) r (proper-merged t u h g p) e
+      by true b p e = pointers-made t u (qualified_if (is_const t || is_const u) (composite_of (bare_type t) (bare_type u))) r (proper-merged t u h g p) e
       by false true p e = pointers-made t u (qualified_if (is_const t || is_const u) VoidTy) r (proper-qualified-if v (is_const t || is_const u) VoidTy tt refl) e
       by false false p e = absurd cc
 
@@ -115,7 +115,7 @@ module _ (v : WholeUnit) where
   integer-with : (k : IntKind) (u : Ty) (a b : Bool) → IsProper v u → IsValueOrVoid u → (r : Ty) → result_type (IntTy k) u a b ≡ Some r → IsChosen v (IntTy k) u r
   integer-with k (PointerTo u) true b g p r e = chosen-as v (IntTy k) (PointerTo u) (PointerTo u) r (record { left = λ n. tt; right = λ n. tt; proper = g; plain = tt }) e
   integer-with k (PointerTo u) false b g p r e = absurd cc
-  integer-with k (IntTy l) a b g p r e = chosen-as v (IntTy k) (IntTy l) (IntTy (common k l)) r (record { left = λ n. tt; right = λ n. tt; proper = tt; plain = tt }) e
+  integer-with k (IntTy l) a b g p r e = chosen-as v (IntTy k) (IntTy l) (IntTy (common_kind k l)) r (record { left = λ n. tt; right = λ n. tt; proper = tt; plain = tt }) e
   integer-with k VoidTy a b g p r e = absurd cc
   integer-with k (StructTag n) a b g p r e = absurd cc
   integer-with k (UnionTag n) a b g p r e = absurd cc
@@ -182,18 +182,18 @@ module _ (E : Type 0) (v : WholeUnit) (os : List ℕ) where
   pub conditional-row : (line : ℕ) (a b c : TypedTree) → IsOperand E v os a → IsOperand E v os b → IsOperand E v os c → (x : TypedTree) → conditional_of line a b c ≡ Some x → IsExpression E v os x
   conditional-row line a b c h g k x e = by (is_scalar (type_of a)) refl e
     where
-      with-type : IsScalarType (type_of a) → (o : Option Ty) → type_of_chosen b c ≡ o → chosen line a b c o ≡ Some x → IsExpression E v os x
+      with-type : IsScalarType (type_of a) → (o : Option Ty) → type_of_chosen b c ≡ o → chosen_node line a b c o ≡ Some x → IsExpression E v os x
       with-type s None p e = absurd cc
       with-type s (Some t) p e =
           let r = result-row v (type_of b) (type_of c) (is_null_constant b) (is_null_constant c) g.proper k.proper g.plain k.plain (null-scalar b g.plain) (null-scalar c k.plain) t p in
           let m = converted-row E v os t b g r.left in
           let n = converted-row E v os t c k r.right in
-          as-made (IsExpression E v os) (written line t (Conditional a (converted t b) (converted t c))) x (record {
-            typed = λ i. (h.typed i, has-value E v os a h, s, m.typed i, has-type E v os t (converted t b) m, n.typed i, has-type E v os t (converted t c) n);
+          as-made (IsExpression E v os) (source_node line t (Conditional a (conversion_to t b) (conversion_to t c))) x (record {
+            typed = λ i. (h.typed i, has-value E v os a h, s, m.typed i, has-type E v os t (conversion_to t b) m, n.typed i, has-type E v os t (conversion_to t c) n);
             proper = r.proper;
             valued = λ z. (refl, r.plain);
           }) e
 
-      by : (d : Bool) → is_scalar (type_of a) ≡ d → (if d then chosen line a b c (type_of_chosen b c) else None) ≡ Some x → IsExpression E v os x
+      by : (d : Bool) → is_scalar (type_of a) ≡ d → (if d then chosen_node line a b c (type_of_chosen b c) else None) ≡ Some x → IsExpression E v os x
       by true q e = with-type (scalar-type (type_of a) h.plain q) (type_of_chosen b c) refl e
       by false q e = absurd cc

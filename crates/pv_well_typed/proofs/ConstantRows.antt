@@ -15,7 +15,7 @@ use Rattle.pv_num.proofs.Congruence.{equal_fits}
 use Rattle.pv_num.proofs.Members.{binary_fits, unary_fits}
 use Rattle.pv_types.specs.Layouts.{up_to, layout_in, is_complete_in}
 use Rattle.pv_types.specs.Ty.{Ty, VoidTy, IntTy, PointerTo, ArrayOf, StructTag, UnionTag, FunctionTy, ConstOf}
-use Rattle.pv_typed.specs.Addresses.{size_in, within, moved, signed, stepped, added, null_if, address, address_form, place, place_form, constant_of, truth_in, is_null}
+use Rattle.pv_typed.specs.Addresses.{size_in, within, bytes_on, signed_count, elements_on, address_sum, null_if, address, address_form, place, place_form, constant_of, truth_in, is_null}
 use Rattle.pv_typed.specs.AddressParts.{or_zero, lasting_at}
 use Rattle.std.specs.Option.{option_or}
 use Rattle.std.specs.Result.{result_ok}
@@ -80,7 +80,7 @@ size-small v t = by (is_complete_in (layouts v) t)
 module _ (v : WholeUnit) (os : List ℕ) (done : IsFinished v) where
   -- ---- 6.6p9: places
 
-  moved-placed : (z : ℤ) (p c : Const) → IsPlaced v p → moved v z p ≡ Some c → IsPlacedPointer v c
+  moved-placed : (z : ℤ) (p c : Const) → IsPlaced v p → bytes_on v z p ≡ Some c → IsPlacedPointer v c
   moved-placed z (const.Address o n) c h e =
       let m = map-some (const.Address o) (within (or_zero (size_in v (object_at v o).t)) (pos n +ℤ z)) c e in
       let l = within-size (or_zero (size_in v (object_at v o).t)) (pos n +ℤ z) m.0 m.1 in
@@ -95,18 +95,18 @@ module _ (v : WholeUnit) (os : List ℕ) (done : IsFinished v) where
   moved-placed z (const.Function f) c h e = absurd cc
   moved-placed z const.Null c h e = absurd cc
 
-  moved-from : (o : Option Const) (z : ℤ) (c : Const) → ((p : Const) → o ≡ Some p → IsPlacedPointer v p) → and_then o (moved v z) ≡ Some c → IsPlacedPointer v c
-  moved-from o z c h e = let m = and-some o (moved v z) c e in moved-placed z m.0 c (h m.0 m.1).0 m.2
+  moved-from : (o : Option Const) (z : ℤ) (c : Const) → ((p : Const) → o ≡ Some p → IsPlacedPointer v p) → and_then o (bytes_on v z) ≡ Some c → IsPlacedPointer v c
+  moved-from o z c h e = let m = and-some o (bytes_on v z) c e in moved-placed z m.0 c (h m.0 m.1).0 m.2
 
-  stepped-placed : (sign : Sign) (t : Ty) (o : Option Const) (i : Option ℤ) (c : Const) → ((p : Const) → o ≡ Some p → IsPlacedPointer v p) → stepped v sign t o i ≡ Some c → IsPlacedPointer v c
+  stepped-placed : (sign : Sign) (t : Ty) (o : Option Const) (i : Option ℤ) (c : Const) → ((p : Const) → o ≡ Some p → IsPlacedPointer v p) → elements_on v sign t o i ≡ Some c → IsPlacedPointer v c
   stepped-placed sign t o i c h e =
-      let m = and-some o (λ p. and_then i (λ i. and_then (size_in v t) (λ n. moved v (signed sign i *ℤ pos n) p))) c e in
-      let k = and-some i (λ i. and_then (size_in v t) (λ n. moved v (signed sign i *ℤ pos n) m.0)) c m.2 in
-      let s = and-some (size_in v t) (λ n. moved v (signed sign k.0 *ℤ pos n) m.0) c k.2 in
-      moved-placed (signed sign k.0 *ℤ pos s.0) m.0 c (h m.0 m.1).0 s.2
+      let m = and-some o (λ p. and_then i (λ i. and_then (size_in v t) (λ n. bytes_on v (signed_count sign i *ℤ pos n) p))) c e in
+      let k = and-some i (λ i. and_then (size_in v t) (λ n. bytes_on v (signed_count sign i *ℤ pos n) m.0)) c m.2 in
+      let s = and-some (size_in v t) (λ n. bytes_on v (signed_count sign k.0 *ℤ pos n) m.0) c k.2 in
+      moved-placed (signed_count sign k.0 *ℤ pos s.0) m.0 c (h m.0 m.1).0 s.2
 
-  added-placed : (sign : Sign) (t : Ty) (o : Option Const) (i : Option ℤ) (c : Const) → ((p : Const) → o ≡ Some p → IsPlacedPointer v p) → added v sign t o i ≡ Some c → IsPlacedPointer v c
-  added-placed sign t o i c h e = let m = and-some (pointee t) (λ u. stepped v sign u o i) c e in stepped-placed sign m.0 o i c h m.2
+  added-placed : (sign : Sign) (t : Ty) (o : Option Const) (i : Option ℤ) (c : Const) → ((p : Const) → o ≡ Some p → IsPlacedPointer v p) → address_sum v sign t o i ≡ Some c → IsPlacedPointer v c
+  added-placed sign t o i c h e = let m = and-some (pointee t) (λ u. elements_on v sign u o i) c e in stepped-placed sign m.0 o i c h m.2
 
   null-placed : (n : Option ℤ) (c : Const) → null_if n ≡ Some c → IsPlacedPointer v c
   null-placed n c e = let m = and-some n (λ k. if is_zero k then Some const.Null else None) c e in by (is_zero m.0) m.2
@@ -145,7 +145,7 @@ module _ (v : WholeUnit) (os : List ℕ) (done : IsFinished v) where
     address-form-placed t (Cast a) c h e = pointer-placed (is_pointer t) (is_integer (type_of a)) (integer a) (address v a) c (λ q. address-placed a c h.0 q) e
     address-form-placed t (Convert a) c h e = pointer-placed (is_pointer t) (is_integer (type_of a)) (integer a) (address v a) c (λ q. address-placed a c h.0 q) e
     address-form-placed t (PointerSum sign a b) c h e =
-        one-placed (is_pointer (type_of a)) (added v sign t (address v a) (integer b)) (added v sign t (address v b) (integer a)) c
+        one-placed (is_pointer (type_of a)) (address_sum v sign t (address v a) (integer b)) (address_sum v sign t (address v b) (integer a)) c
         (λ q. added-placed sign t (address v a) (integer b) c (λ p r. address-placed a p h.0 r) q) (λ q. added-placed sign t (address v b) (integer a) c (λ p r. address-placed b p h.2 r) q) e
     address-form-placed t _ c h e = absurd cc
 
@@ -157,7 +157,7 @@ module _ (v : WholeUnit) (os : List ℕ) (done : IsFinished v) where
     place-form-placed t (Function f) c h e = subst (IsPlacedPointer v) (some-same (const.Function f) c e) (h, tt)
     place-form-placed t (String l) c h e = subst (IsPlacedPointer v) (some-same (const.Literal l 0) c e) ((h, omega arith), tt)
     place-form-placed t (Subscript a b) c h e =
-        one-placed (is_pointer (type_of a)) (stepped v Plus t (address v a) (integer b)) (stepped v Plus t (address v b) (integer a)) c
+        one-placed (is_pointer (type_of a)) (elements_on v Plus t (address v a) (integer b)) (elements_on v Plus t (address v b) (integer a)) c
         (λ q. stepped-placed Plus t (address v a) (integer b) c (λ p r. address-placed a p h.0 r) q) (λ q. stepped-placed Plus t (address v b) (integer a) c (λ p r. address-placed b p h.2 r) q) e
     place-form-placed t (Member a offset) c h e = moved-from (place v a) (pos offset) c (λ p r. place-placed a p h.0 r) e
     place-form-placed t (Arrow a offset) c h e = moved-from (address v a) (pos offset) c (λ p r. address-placed a p h.1 r) e

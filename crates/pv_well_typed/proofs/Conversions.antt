@@ -7,9 +7,9 @@ use Rattle.pv_types.specs.Ty.{Ty, VoidTy, IntTy, PointerTo, ArrayOf, StructTag, 
 use Rattle.pv_typed.specs.Addresses.{is_null_constant}
 use Rattle.pv_typed.specs.TypedTree.{TypedTree, Node, Form, type_of}
 use Rattle.pv_typed.specs.TypedUnits.{WholeUnit}
-use Rattle.pv_types.specs.Sorts.{bare}
+use Rattle.pv_types.specs.Sorts.{bare_type}
 use Rattle.pv_types.specs.SameTypes.{same_type as same}
-use Rattle.pv_check.specs.Values.{converted, may_assign, assigned}
+use Rattle.pv_check.specs.Values.{conversion_to, may_assign, as_if_assigned}
 use Rattle.pv_check.proofs.Same.{same_equal, same_itself}
 use Rattle.pv_guards.specs.Typed.{IsValueType, IsScalarType, MayConvert}
 use Rattle.pv_well_typed.specs.Proper.{IsValueOrVoid}
@@ -67,14 +67,14 @@ may-assigned (ConstOf t) u null scalar e = absurd cc
 
 -- 6.5.16.1p2: a value as it is assigned to a type, whose bare version it has then
 pub record IsAssigned (E : Type 0) (v : WholeUnit) (os : List ℕ) (t : Ty) (a : TypedTree) : Type 0 where
-  pub converted : IsConverted E v os (bare t) a
-  pub value : IsValueType (bare t)
+  pub converted : IsConverted E v os (bare_type t) a
+  pub value : IsValueType (bare_type t)
 
-pub assigned-row : (E : Type 0) (v : WholeUnit) (os : List ℕ) (t : Ty) (a : TypedTree) → IsOperand E v os a → (x : TypedTree) → assigned t a ≡ Some x → IsAssigned E v os t x
-assigned-row E v os t a h x e = by (may_assign (bare t) (type_of a) (is_null_constant a)) refl e
+pub assigned-row : (E : Type 0) (v : WholeUnit) (os : List ℕ) (t : Ty) (a : TypedTree) → IsOperand E v os a → (x : TypedTree) → as_if_assigned t a ≡ Some x → IsAssigned E v os t x
+assigned-row E v os t a h x e = by (may_assign (bare_type t) (type_of a) (is_null_constant a)) refl e
   where
-    by : (b : Bool) → may_assign (bare t) (type_of a) (is_null_constant a) ≡ b → (if b then Some (converted (bare t) a) else None) ≡ Some x → IsAssigned E v os t x
+    by : (b : Bool) → may_assign (bare_type t) (type_of a) (is_null_constant a) ≡ b → (if b then Some (conversion_to (bare_type t) a) else None) ≡ Some x → IsAssigned E v os t x
     by true p e =
-        let may = may-assigned (bare t) (type_of a) (is_null_constant a) (null-scalar a h.plain) p in
-        as-made (IsAssigned E v os t) (converted (bare t) a) x (record { converted = converted-row E v os (bare t) a h may.0; value = may.1 }) e
+        let may = may-assigned (bare_type t) (type_of a) (is_null_constant a) (null-scalar a h.plain) p in
+        as-made (IsAssigned E v os t) (conversion_to (bare_type t) a) x (record { converted = converted-row E v os (bare_type t) a h may.0; value = may.1 }) e
     by false p e = absurd cc

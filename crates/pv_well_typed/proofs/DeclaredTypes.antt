@@ -12,17 +12,17 @@ use Rattle.pv_typed.proofs.Each.{each_append}
 use Rattle.pv_typed.specs.TypedUnits.{WholeUnit}
 use Rattle.pv_check.specs.declared.specifiers.Storage.{Storage}
 use Rattle.pv_check.specs.declared.words.TypeWords.{TypeWords}
-use Rattle.pv_check.specs.Derivations.{Derivation, ByPointer, ByArray, ByFunction, step, derived, adjusted}
+use Rattle.pv_check.specs.Derivations.{Derivation, ByPointer, ByArray, ByFunction, step, derived_type, adjustment_of}
 use Rattle.pv_check.specs.DerivationParts.{pointer_to, function_of}
-use Rattle.pv_check.specs.Qualified.{qualified, with_const}
-use Rattle.pv_types.specs.Sorts.{bare}
+use Rattle.pv_check.specs.Qualified.{const_version, with_const}
+use Rattle.pv_types.specs.Sorts.{bare_type}
 use Rattle.pv_check.specs.Sorts.{is_array}
 use Rattle.pv_typed.specs.TypedTree.{is_function}
-use Rattle.pv_check.specs.Specifiers.{Seen, Specified, one_storage, with_keyword, with_type, base_type, specified, is_plain}
+use Rattle.pv_check.specs.Specifiers.{Seen, Specified, one_storage, with_keyword, with_type, base_type, specification_of, is_plain}
 use Rattle.pv_check.specs.SpecifierParts.{specified_with, without_storage}
 use Rattle.pv_typed.specs.Constants.{and_then}
 use Rattle.pv_check.specs.Words.{Row, rows, named_by, no_words, same_words, type_of_words}
-use Rattle.pv_check.specs.WordParts.{counted}
+use Rattle.pv_check.specs.WordParts.{count_of_words}
 use Rattle.pv_guards.specs.Typed.{AreFixed}
 use Rattle.pv_well_typed.specs.Proper.{IsProper}
 use Rattle.pv_well_typed.specs.Later.{Extends}
@@ -40,7 +40,7 @@ module _ (v : WholeUnit) where
 
   named-proper : (rs : List Row) → Each (λ (r : Row). IsProper v r.t) rs → (w : TypeWords) (t : Ty) → named_by rs w ≡ Some t → IsProper v t
   named-proper [] h w t e = absurd cc
-  named-proper (r ∷ rs) h w t e = by (same_words (counted r.words) w) (named-proper rs h.1 w t) e
+  named-proper (r ∷ rs) h w t e = by (same_words (count_of_words r.words) w) (named-proper rs h.1 w t) e
     where
       by : (b : Bool) → (named_by rs w ≡ Some t → IsProper v t) → (if b then Some r.t else named_by rs w) ≡ Some t → IsProper v t
       by true rest e = as-made (IsProper v) r.t t h.0 e
@@ -83,22 +83,22 @@ module _ (v : WholeUnit) where
   constant-proper true VoidTy u h e = as-made (IsProper v) (ConstOf VoidTy) u (tt, tt) e
   constant-proper true (IntTy k) u h e = as-made (IsProper v) (ConstOf (IntTy k)) u (tt, tt) e
   constant-proper true (PointerTo t) u h e = as-made (IsProper v) (ConstOf (PointerTo t)) u (tt, h) e
-  constant-proper true (ArrayOf t n) u h e = as-made (IsProper v) (qualified (ArrayOf t n)) u (proper-qualified v (ArrayOf t n) h refl) e
+  constant-proper true (ArrayOf t n) u h e = as-made (IsProper v) (const_version (ArrayOf t n)) u (proper-qualified v (ArrayOf t n) h refl) e
   constant-proper true (StructTag n) u h e = as-made (IsProper v) (ConstOf (StructTag n)) u (tt, h) e
   constant-proper true (UnionTag n) u h e = as-made (IsProper v) (ConstOf (UnionTag n)) u (tt, h) e
   constant-proper true (FunctionTy t ts c) u h e = absurd cc
   constant-proper true (ConstOf t) u h e = as-made (IsProper v) (ConstOf t) u h e
 
-  pub specified-proper : (seen : Seen) (x : Specified) → HasProperName seen.named → specified seen ≡ Some x → IsProper v x.t
+  pub specified-proper : (seen : Seen) (x : Specified) → HasProperName seen.named → specification_of seen ≡ Some x → IsProper v x.t
   specified-proper seen x h e =
       let f = from-some (and_then (base_type seen.words seen.named) (with_const seen.constant)) (specified_with seen.storage) x e in
       let g = from-some (base_type seen.words seen.named) (with_const seen.constant) f.0 f.1 in
       as-made (λ (y : Specified). IsProper v y.t) (record { storage = seen.storage; t = f.0 }) x
       (constant-proper seen.constant g.0 f.0 (base-proper seen.words seen.named g.0 h g.1) g.2) f.2
 
-  pub plain-proper : (seen : Seen) (t : Ty) → HasProperName seen.named → and_then (specified seen) without_storage ≡ Some t → IsProper v t
+  pub plain-proper : (seen : Seen) (t : Ty) → HasProperName seen.named → and_then (specification_of seen) without_storage ≡ Some t → IsProper v t
   plain-proper seen t h e =
-      let f = from-some (specified seen) without_storage t e in
+      let f = from-some (specification_of seen) without_storage t e in
       by f.0 (specified-proper seen f.0 h f.1) (is_plain f.0.storage) f.2
     where
       by : (x : Specified) → IsProper v x.t → (b : Bool) → (if b then Some x.t else None) ≡ Some t → IsProper v t
@@ -146,10 +146,10 @@ module _ (v : WholeUnit) where
     function-proper : (ts : Tys) (t u : Ty) → IsProper v t → function_of ts false t ≡ Some u → IsProper v u
     function-proper ts t u h e = by (is_function t) (is_array t) refl refl e
       where
-        by : (b c : Bool) → is_function t ≡ b → is_array t ≡ c → (if b then None else (if c then None else Some (FunctionTy (bare t) ts false))) ≡ Some u → IsProper v u
+        by : (b c : Bool) → is_function t ≡ b → is_array t ≡ c → (if b then None else (if c then None else Some (FunctionTy (bare_type t) ts false))) ≡ Some u → IsProper v u
         by true c p q e = absurd cc
         by false true p q e = absurd cc
-        by false false p q e = as-made (IsProper v) (FunctionTy (bare t) ts false) u (plain-value v t h q p, proper-bare v t h, λ e. absurd cc) e
+        by false false p q e = as-made (IsProper v) (FunctionTy (bare_type t) ts false) u (plain-value v t h q p, proper-bare v t h, λ e. absurd cc) e
 
     pointer-proper : (c : Bool) (t u : Ty) → IsProper v t → pointer_to c t ≡ Some u → IsProper v u
     pointer-proper c t u h e = constant-proper c (PointerTo t) u h e
@@ -161,19 +161,19 @@ module _ (v : WholeUnit) where
     step-proper b (ByFunction ts c) t u p h e = function-proper ts t u h (subst (λ x. function_of ts x t ≡ Some u) p e)
 
     -- all steps round a type
-    pub derived-proper : (unsized : Bool) (ds : List Derivation) (t u : Ty) → Each IsPlainStep ds → IsProper v t → derived unsized es ds t ≡ Some u → IsProper v u
+    pub derived-proper : (unsized : Bool) (ds : List Derivation) (t u : Ty) → Each IsPlainStep ds → IsProper v t → derived_type unsized es ds t ≡ Some u → IsProper v u
     derived-proper b [] t u p h e = as-made (IsProper v) t u h e
     derived-proper b (d ∷ ds) t u p h e =
-        let f = from-some (derived b es ds t) (step b es d) u e in
+        let f = from-some (derived_type b es ds t) (step b es d) u e in
         step-proper b d f.0 u p.0 (derived-proper b ds t f.0 p.1 h f.1) f.2
 
     function-made : (ts : Tys) (c : Bool) (t u : Ty) → function_of ts c t ≡ Some u → is_function u ≡ true
     function-made ts c t u e = by (is_function t) (is_array t) e
       where
-        by : (a b : Bool) → (if a then None else (if b then None else Some (FunctionTy (bare t) ts c))) ≡ Some u → is_function u ≡ true
+        by : (a b : Bool) → (if a then None else (if b then None else Some (FunctionTy (bare_type t) ts c))) ≡ Some u → is_function u ≡ true
         by true b e = absurd cc
         by false true e = absurd cc
-        by false false e = as-made (λ w. is_function w ≡ true) (FunctionTy (bare t) ts c) u refl e
+        by false false e = as-made (λ w. is_function w ≡ true) (FunctionTy (bare_type t) ts c) u refl e
 
     step-named : (unsized : Bool) (d : Derivation) (t u : Ty) → IsProper v t → step unsized es d t ≡ Some u → is_function u ≡ false → IsProper v u
     step-named b (ByPointer c) t u h e f = step-proper b (ByPointer c) t u tt h e
@@ -181,20 +181,20 @@ module _ (v : WholeUnit) where
     step-named b (ByFunction ts c) t u h e f = let g : true ≡ false = sym (function-made ts c t u e) ∙ f in absurd cc
 
     -- 6.7.7p2: what is no function
-    pub derived-named : (unsized : Bool) (ds : List Derivation) (t u : Ty) → IsPlainBehind ds → IsProper v t → derived unsized es ds t ≡ Some u → is_function u ≡ false → IsProper v u
+    pub derived-named : (unsized : Bool) (ds : List Derivation) (t u : Ty) → IsPlainBehind ds → IsProper v t → derived_type unsized es ds t ≡ Some u → is_function u ≡ false → IsProper v u
     derived-named b [] t u p h e f = as-made (IsProper v) t u h e
     derived-named b (d ∷ ds) t u p h e f =
-        let g = from-some (derived b es ds t) (step b es d) u e in
+        let g = from-some (derived_type b es ds t) (step b es d) u e in
         step-named b d g.0 u (derived-proper b ds t g.0 p h g.1) g.2 f
 
     -- where no function that is defined has `...`, any type may have one
     function-any : AreFixed v → (ts : Tys) (c : Bool) (t u : Ty) → IsProper v t → function_of ts c t ≡ Some u → IsProper v u
     function-any fixed ts c t u h e = by (is_function t) (is_array t) refl refl e
       where
-        by : (b d : Bool) → is_function t ≡ b → is_array t ≡ d → (if b then None else (if d then None else Some (FunctionTy (bare t) ts c))) ≡ Some u → IsProper v u
+        by : (b d : Bool) → is_function t ≡ b → is_array t ≡ d → (if b then None else (if d then None else Some (FunctionTy (bare_type t) ts c))) ≡ Some u → IsProper v u
         by true d p q e = absurd cc
         by false true p q e = absurd cc
-        by false false p q e = as-made (IsProper v) (FunctionTy (bare t) ts c) u (plain-value v t h q p, proper-bare v t h, λ i. fixed) e
+        by false false p q e = as-made (IsProper v) (FunctionTy (bare_type t) ts c) u (plain-value v t h q p, proper-bare v t h, λ i. fixed) e
 
     step-any : AreFixed v → (unsized : Bool) (d : Derivation) (t u : Ty) → IsProper v t → step unsized es d t ≡ Some u → IsProper v u
     step-any fixed b (ByPointer c) t u h e = pointer-proper c t u h e
@@ -202,12 +202,12 @@ module _ (v : WholeUnit) where
     step-any fixed b (ByArray (Some n)) t u h e = sized-proper n t u h e
     step-any fixed b (ByFunction ts c) t u h e = function-any fixed ts c t u h e
 
-    pub derived-any : AreFixed v → (unsized : Bool) (ds : List Derivation) (t u : Ty) → IsProper v t → derived unsized es ds t ≡ Some u → IsProper v u
+    pub derived-any : AreFixed v → (unsized : Bool) (ds : List Derivation) (t u : Ty) → IsProper v t → derived_type unsized es ds t ≡ Some u → IsProper v u
     derived-any fixed b [] t u h e = as-made (IsProper v) t u h e
-    derived-any fixed b (d ∷ ds) t u h e = let f = from-some (derived b es ds t) (step b es d) u e in step-any fixed b d f.0 u (derived-any fixed b ds t f.0 h f.1) f.2
+    derived-any fixed b (d ∷ ds) t u h e = let f = from-some (derived_type b es ds t) (step b es d) u e in step-any fixed b d f.0 u (derived-any fixed b ds t f.0 h f.1) f.2
 
   -- 6.7.6.3p7, p8: a parameter's type
-  pub adjusted-proper : (t u : Ty) → IsProper v t → adjusted t ≡ Some u → IsProper v u
+  pub adjusted-proper : (t u : Ty) → IsProper v t → adjustment_of t ≡ Some u → IsProper v u
   adjusted-proper (ArrayOf t n) u h e = as-made (IsProper v) (PointerTo t) u h.0 e
   adjusted-proper (FunctionTy t ts c) u h e = as-made (IsProper v) (PointerTo (FunctionTy t ts c)) u h e
   adjusted-proper (ConstOf t) u h e = by (is_adjusted t) e

@@ -6,11 +6,11 @@ use Rattle.pv_token.specs.declared.words.Word.TheVariants as word
 use Rattle.pv_tree.specs.Syntax.{DeclarationTree, Function as FunctionTree, Declaration, InitDeclarator, MemberDeclaration, Enumerator, Parameter, TypeName, DeclaratorTree, InitializerTree, Tree, OfExpression, OfDeclaration, OfDeclarator, OfSpecifier, OfInitializer, OfStatement, Trees, NoTrees, Then, OptionalTree, Absent, Present}
 use Rattle.pv_types.specs.Ty.{Ty}
 use Rattle.pv_typed.specs.TypedUnits.{WholeUnit}
-use Rattle.pv_check.specs.Derivations.{declared_name, derived}
+use Rattle.pv_check.specs.Derivations.{declared_name, derived_type}
 use Rattle.pv_typed.specs.TypedTree.{is_function}
-use Rattle.pv_check.specs.Specifiers.{Specified, specified}
+use Rattle.pv_check.specs.Specifiers.{Specified, specification_of}
 use Rattle.pv_check.specs.State.{State, After, give, env}
-use Rattle.pv_check.specs.Scopes.{innermost, find}
+use Rattle.pv_check.specs.Scopes.{innermost_scope, find}
 use Rattle.pv_typed.specs.Constants.{and_then}
 use Rattle.pv_check.specs.Tags.{composite_named, tag_alone}
 use Rattle.pv_check.specs.Typing.{specifiers, steps}
@@ -44,18 +44,18 @@ module _ (v : WholeUnit) (done : IsFinished v) (fixed : AreFixed v) where
   -- 6.7p1: specifiers
   pub specified-known : (specs : Trees) (s : State) (a : After Specified) → specified_by specs s ≡ Some a → Stated v s a.state (IsProper v a.value.t)
   specified-known specs s a e =
-      let b = from-some (specifiers specs s) (λ b. give (specified b.value) b.state) a e in
+      let b = from-some (specifiers specs s) (λ b. give (specification_of b.value) b.state) a e in
       let r = (specifiers-give v [] done specs s).held b.0 b.1 in
-      let g = given-state (specified b.0.value) b.0.state a b.2 in
+      let g = given-state (specification_of b.0.value) b.0.state a b.2 in
       subst (λ t. Stated v s t (IsProper v a.value.t)) g.1 (record { moved = r.0; known = λ l p. let z = r.1 l tt p in (z.0, z.2, specified-proper v b.0.value a.value z.1 g.0) })
 
   -- 6.7.6p4: a declarator
   pub type-known : (unsized : Bool) (t : Ty) (d : DeclaratorTree) (s : State) (a : After DeclaredType) → type_declared unsized t d s ≡ Some a → Stated v s a.state (IsProper v t → IsProper v a.value.t)
   type-known unsized t d s a e =
-      let b = from-some (steps d s) (λ b. give (and_then (derived unsized (env b.state) b.value.list t) (with_unsized (has_unsized b.value.list))) b.state) a e in
+      let b = from-some (steps d s) (λ b. give (and_then (derived_type unsized (env b.state) b.value.list t) (with_unsized (has_unsized b.value.list))) b.state) a e in
       let r = (steps-give v [] done d s).held b.0 b.1 in
-      let g = given-state (and_then (derived unsized (env b.0.state) b.0.value.list t) (with_unsized (has_unsized b.0.value.list))) b.0.state a b.2 in
-      let c = from-some (derived unsized (env b.0.state) b.0.value.list t) (with_unsized (has_unsized b.0.value.list)) a.value g.0 in
+      let g = given-state (and_then (derived_type unsized (env b.0.state) b.0.value.list t) (with_unsized (has_unsized b.0.value.list))) b.0.state a b.2 in
+      let c = from-some (derived_type unsized (env b.0.state) b.0.value.list t) (with_unsized (has_unsized b.0.value.list)) a.value g.0 in
       let same : c.0 ≡ a.value.t = ap (λ (x : DeclaredType). x.t) (some-same (record { t = c.0; unsized = has_unsized b.0.value.list }) a.value c.2) in
       subst (λ z. Stated v s z (IsProper v t → IsProper v a.value.t)) g.1 (record {
         moved = r.0;
@@ -145,10 +145,10 @@ module _ (v : WholeUnit) (done : IsFinished v) (fixed : AreFixed v) where
       let g = stated-goes U (IsProper v a.0.value.t) k u a.0.state i h in
       lead-goes U (IsProper v a.0.value.t) v k k u (record u { state = a.0.state }) w g (λ b l s. (h.known l s.proper).2) (declarators-go k ds a.0.value (record u { state = a.0.state }) w c g.unit a.2)
 
-  composite-known : (b : Bool) (n : ℕ) (s t : State) → and_then (composite_named b n (find (innermost s.scopes).tags n) s) (λ a. Some a.state) ≡ Some t → Stated v s t U
+  composite-known : (b : Bool) (n : ℕ) (s t : State) → and_then (composite_named b n (find (innermost_scope s.scopes).tags n) s) (λ a. Some a.state) ≡ Some t → Stated v s t U
   composite-known b n s t e =
-      let a = from-some (composite_named b n (find (innermost s.scopes).tags n) s) (λ a. Some a.state) t e in
-      let r = (composite-gives U v [] U b n (find (innermost s.scopes).tags n) s (λ g k q. inner-tag v s g n k q)).held a.0 a.1 in
+      let a = from-some (composite_named b n (find (innermost_scope s.scopes).tags n) s) (λ a. Some a.state) t e in
+      let r = (composite-gives U v [] U b n (find (innermost_scope s.scopes).tags n) s (λ g k q. inner-tag v s g n k q)).held a.0 a.1 in
       subst (λ z. Stated v s z U) (some-same a.0.state t a.2) (record { moved = r.0; known = λ l p. let z = r.1 l tt p in (z.0, z.2, tt) })
 
   tag-known : (w : Word) (n : ℕ) (s t : State) → tag_alone w n s ≡ Some t → Stated v s t U

@@ -5,7 +5,7 @@ use Rattle.std.specs.Bool.{beq}
 use Rattle.std.proofs.lemmas.Bool.{eqb-true}
 use Rattle.pv_tree.specs.Syntax.{DeclaratorTree, StatementTree, Block, ExpressionStatement, If, IfElse, While, DoWhile, For, ForDeclaration, Switch, SwitchBlock, Labelled, Case, Default, Break, Continue, Return, Trees}
 use Rattle.pv_num.specs.declared.kinds.IntKind.TheVariants.{Int}
-use Rattle.pv_types.specs.Sorts.{bare, is_void}
+use Rattle.pv_types.specs.Sorts.{bare_type, is_void}
 use Rattle.pv_types.specs.Layouts.{Entry, is_complete_in}
 use Rattle.pv_types.specs.Ty.{Ty, Tys, NoTys, MoreTys, VoidTy, IntTy, PointerTo, ArrayOf, StructTag, UnionTag, FunctionTy, ConstOf}
 use Rattle.pv_typed.specs.Adding.{with_param}
@@ -16,19 +16,19 @@ use Rattle.pv_typed.proofs.Each.{each_append, each_weaker}
 use Rattle.pv_typed.specs.TypedStatement.{TypedStatement}
 use Rattle.pv_typed.specs.TypedUnits.{WholeUnit, TypedObject, TypedFunction, layouts, object_at, function_at, name_at}
 use Rattle.pv_typed.specs.UnitParts.{no_function}
-use Rattle.pv_check.specs.Derivations.{Derivation, ByFunction, Parameter as OneParameter, Signature, Steps, parameter_types, declared_name, derived, step}
+use Rattle.pv_check.specs.Derivations.{Derivation, ByFunction, Parameter as OneParameter, Signature, Steps, parameter_types, declared_name, derived_type, step}
 use Rattle.pv_library.specs.LibraryNames.{library_named}
 use Rattle.pv_check.specs.Sorts.{is_array}
 use Rattle.pv_typed.specs.TypedTree.{is_function}
 use Rattle.pv_check.specs.Specifiers.{Specified}
 use Rattle.pv_check.specs.State.{State, After, Scope, Meaning, env}
-use Rattle.pv_check.specs.Scopes.{innermost, left}
+use Rattle.pv_check.specs.Scopes.{innermost_scope, behind_scope}
 use Rattle.pv_typed.specs.Constants.{and_then}
 use Rattle.pv_check.specs.Typing.{steps}
-use Rattle.pv_unit.specs.Declarations.{specified_by, noted}
+use Rattle.pv_unit.specs.Declarations.{specified_by, after_declaration}
 use Rattle.pv_unit.specs.Definitions.{Head, may_be_defined, defined_once, head_of, may_head, head}
 use Rattle.pv_unit.specs.HeadParts.{may_return, may_define, head_function, head_derived, head_signed, head_stepped, head_specified}
-use Rattle.pv_unit.specs.Redeclarations.{Entity, UnitState, unit_name, is_entity, marked, is_initialized, function_declared, with_function}
+use Rattle.pv_unit.specs.Redeclarations.{Entity, UnitState, unit_name, is_entity, entities_after, is_initialized, function_declared, with_function}
 use Rattle.pv_unit.specs.Functions.{within, with_parameter, with_parameters, defined_with, typed_body}
 use Rattle.pv_unit.specs.FunctionParts.{with_body, with_definition, body_of}
 use Rattle.pv_unit.specs.Statements.{declared_in, block_of}
@@ -119,7 +119,7 @@ left-within x ss ts h =
 -- ---- parameters (6.9.1p7, p10)
 
 -- qualifiers around a type leave its values
-unqualified-like : (t : Ty) → AreLike (bare t) t
+unqualified-like : (t : Ty) → AreLike (bare_type t) t
 unqualified-like (ConstOf t) = λ env w. (unqualified-like t env w)
 unqualified-like VoidTy = λ env w. ((λ h. h), (λ h. h))
 unqualified-like (IntTy k) = λ env w. ((λ h. h), (λ h. h))
@@ -179,7 +179,7 @@ record HeadAt (v : WholeUnit) (t r : Ty) (g : Signature) (u : UnitState) (z : He
   fixed : IsFixed t → IsFixed (function_at z.1.state.unit function).t
 
 -- the function is marked where it is first declared
-now-initialized : (k : ℕ) (es : List Entity) → HasEntity true k es → is_initialized true k (marked true k true true false es) ≡ true
+now-initialized : (k : ℕ) (es : List Entity) → HasEntity true k es → is_initialized true k (entities_after true k true true false es) ≡ true
 now-initialized k [] h = absurd h
 now-initialized k (e ∷ es) h = by (now-initialized k es) (is_entity true k e) refl h
   where
@@ -187,14 +187,14 @@ now-initialized k (e ∷ es) h = by (now-initialized k es) (is_entity true k e) 
     or-true true = refl
     or-true false = refl
 
-    by : (HasEntity true k es → is_initialized true k (marked true k true true false es) ≡ true) → (b : Bool) → is_entity true k e ≡ b → HasEntity true k (e ∷ es)
-        → is_initialized true k (if b then record e { defined = e.defined || true; initialized = e.initialized || true; unsized = e.unsized || false } ∷ es else e ∷ marked true k true true false es) ≡ true
+    by : (HasEntity true k es → is_initialized true k (entities_after true k true true false es) ≡ true) → (b : Bool) → is_entity true k e ≡ b → HasEntity true k (e ∷ es)
+        → is_initialized true k (if b then record e { defined = e.defined || true; initialized = e.initialized || true; unsized = e.unsized || false } ∷ es else e ∷ entities_after true k true true false es) ≡ true
     by rest true q h = ap (λ c. if c then e.initialized || true else is_initialized true k es) q ∙ or-true e.initialized
     by rest false q (inl r) = let both : true ≡ false = sym r ∙ q in absurd cc
-    by rest false q (inr r) = ap (λ c. if c then e.initialized else is_initialized true k (marked true k true true false es)) q ∙ rest r
+    by rest false q (inr r) = ap (λ c. if c then e.initialized else is_initialized true k (entities_after true k true true false es)) q ∙ rest r
 
 -- while its body is typed it is defined, and has no body yet
-marked-open : (k : ℕ) (u : WholeUnit) (es : List Entity) → Each (IsEntityOf None u) es → Each (IsEntityOf (Some k) u) (marked true k true true false es)
+marked-open : (k : ℕ) (u : WholeUnit) (es : List Entity) → Each (IsEntityOf None u) es → Each (IsEntityOf (Some k) u) (entities_after true k true true false es)
 marked-open k u [] h = tt
 marked-open k u (e ∷ es) h = by (marked-open k u es h.1) (is_entity true k e) refl
   where
@@ -208,8 +208,8 @@ marked-open k u (e ∷ es) h = by (marked-open k u es h.1) (is_entity true k e) 
     all-later : (xs : List Entity) → Each (IsEntityOf None u) xs → Each (IsEntityOf (Some k) u) xs
     all-later xs q = each_weaker (IsEntityOf None u) (IsEntityOf (Some k) u) (λ (x : Entity) z. later x z) xs q
 
-    by : Each (IsEntityOf (Some k) u) (marked true k true true false es) → (b : Bool) → is_entity true k e ≡ b
-        → Each (IsEntityOf (Some k) u) (if b then record e { defined = e.defined || true; initialized = e.initialized || true; unsized = e.unsized || false } ∷ es else e ∷ marked true k true true false es)
+    by : Each (IsEntityOf (Some k) u) (entities_after true k true true false es) → (b : Bool) → is_entity true k e ≡ b
+        → Each (IsEntityOf (Some k) u) (if b then record e { defined = e.defined || true; initialized = e.initialized || true; unsized = e.unsized || false } ∷ es else e ∷ entities_after true k true true false es)
     by rest true q = (
       record { object = h.0.object; function = h.0.function; defined = λ f d. inl (ap Some (sym (eqb-true e.number k (both-true (beq e.function true) (e.number == k) q).1))) },
       all-later es h.1,
@@ -217,7 +217,7 @@ marked-open k u (e ∷ es) h = by (marked-open k u es h.1) (is_entity true k e) 
     by rest false q = (later e h.0, rest)
 
 module _ (v : WholeUnit) (done : IsFinished v) where
-  open-goes : (B : Type 0) (f : ℕ) (u : UnitState) → IsUnit v None u → Goes B v (Some f) u (noted true f true true false u)
+  open-goes : (B : Type 0) (f : ℕ) (u : UnitState) → IsUnit v None u → Goes B v (Some f) u (after_declaration true f true true false u)
   open-goes B f u i = record {
     later = λ l. l;
     grown = λ e. e;
@@ -229,8 +229,8 @@ module _ (v : WholeUnit) (done : IsFinished v) where
       evaluated = i.evaluated;
       unnoted = i.unnoted;
       orderly = i.orderly;
-      names = visible-more (blank v) (declared-objects u.entities) (declared-objects (marked true f true true false u.entities))
-          (λ o q. has-declared o (marked true f true true false u.entities) (has-marked true f true true false false o u.entities (declared-has o u.entities q))) u.state.scopes i.names;
+      names = visible-more (blank v) (declared-objects u.entities) (declared-objects (entities_after true f true true false u.entities))
+          (λ o q. has-declared o (entities_after true f true true false u.entities) (has-marked true f true true false false o u.entities (declared-has o u.entities q))) u.state.scopes i.names;
       entities = marked-open f u.state.unit u.entities i.entities;
       functions = λ j lt. let z = i.functions j lt in record {
         declared = has-marked true f true true false true j u.entities z.declared;
@@ -258,13 +258,13 @@ module _ (v : WholeUnit) (done : IsFinished v) where
       by a.0 (function-declared v done None n.0 n.1 t u i f a.0 a.1) (is_initialized true a.0.0 a.0.1.entities) refl a.2
     where
       by : (a : ℕ × UnitState) → FunctionAt v done (IsProper v t) None u t a → (b : Bool) → is_initialized true a.0 a.1.entities ≡ b
-          → (if b then None else Some (record { function = a.0; result = r; signature = g }, noted true a.0 true true false a.1)) ≡ Some z → HeadAt v t r g u z
+          → (if b then None else Some (record { function = a.0; result = r; signature = g }, after_declaration true a.0 true true false a.1)) ≡ Some z → HeadAt v t r g u z
       by a h true q e = absurd cc
       by a h false q e =
-          as-head t r g u (record { function = a.0; result = r; signature = g }, noted true a.0 true true false a.1) z e (record {
+          as-head t r g u (record { function = a.0; result = r; signature = g }, after_declaration true a.0 true true false a.1) z e (record {
             function = a.0;
             is = refl;
-            goes = lead-goes (IsProper v t) U v None (Some a.0) u a.1 (noted true a.0 true true false a.1) h.goes (λ b l s. tt) (open-goes U a.0 a.1 h.goes.unit);
+            goes = lead-goes (IsProper v t) U v None (Some a.0) u a.1 (after_declaration true a.0 true true false a.1) h.goes (λ b l s. tt) (open-goes U a.0 a.1 h.goes.unit);
             there = h.there;
             unset = (h.goes.unit.functions a.0 h.there).fresh q;
             marked = now-initialized a.0 a.1.entities (h.goes.unit.functions a.0 h.there).declared;
@@ -304,30 +304,30 @@ module _ (v : WholeUnit) (done : IsFinished v) where
   made-head : (base : Ty) (rest : List Derivation) (g : Signature) (n : ℕ × ℕ) (u : UnitState) (z : Head × UnitState) → IsUnit v None u
       → head_derived base (ByFunction (parameter_types g.parameters) g.variadic ∷ rest) g n u ≡ Some z → IsDefined u base g z
   made-head base rest g n u z i e =
-      let m = from-some (derived false (env u.state) (ByFunction (parameter_types g.parameters) g.variadic ∷ rest) base) (λ made. head_of made g n u) z e in
-      let r = from-some (derived false (env u.state) rest base) (step false (env u.state) (ByFunction (parameter_types g.parameters) g.variadic)) m.0 m.1 in
+      let m = from-some (derived_type false (env u.state) (ByFunction (parameter_types g.parameters) g.variadic ∷ rest) base) (λ made. head_of made g n u) z e in
+      let r = from-some (derived_type false (env u.state) rest base) (step false (env u.state) (ByFunction (parameter_types g.parameters) g.variadic)) m.0 m.1 in
       by m.0 r.0 (is_function r.0) (is_array r.0) r.2 m.2 m.1
     where
-      of : (w : Ty) → FunctionTy (bare w) (parameter_types g.parameters) g.variadic ≡ FunctionTy (bare w) (parameter_types g.parameters) g.variadic
-          → head_of (FunctionTy (bare w) (parameter_types g.parameters) g.variadic) g n u ≡ Some z
-          → derived false (env u.state) (ByFunction (parameter_types g.parameters) g.variadic ∷ rest) base ≡ Some (FunctionTy (bare w) (parameter_types g.parameters) g.variadic) → IsDefined u base g z
+      of : (w : Ty) → FunctionTy (bare_type w) (parameter_types g.parameters) g.variadic ≡ FunctionTy (bare_type w) (parameter_types g.parameters) g.variadic
+          → head_of (FunctionTy (bare_type w) (parameter_types g.parameters) g.variadic) g n u ≡ Some z
+          → derived_type false (env u.state) (ByFunction (parameter_types g.parameters) g.variadic ∷ rest) base ≡ Some (FunctionTy (bare_type w) (parameter_types g.parameters) g.variadic) → IsDefined u base g z
       of w same q d =
-          let h = of-head (bare w) (parameter_types g.parameters) g.variadic g n u z i q in
+          let h = of-head (bare_type w) (parameter_types g.parameters) g.variadic g n u z i q in
           record {
-            result = bare w;
-            head = subst (λ c. HeadAt v (FunctionTy (bare w) (parameter_types g.parameters) c) (bare w) g u z) h.1 h.0;
+            result = bare_type w;
+            head = subst (λ c. HeadAt v (FunctionTy (bare_type w) (parameter_types g.parameters) c) (bare_type w) g u z) h.1 h.0;
             may = h.2;
-            proper = λ fixed l p. subst (λ c. IsProper v (FunctionTy (bare w) (parameter_types g.parameters) c)) h.1
-                (derived-any v (env u.state) l.unit.layouts fixed false (ByFunction (parameter_types g.parameters) g.variadic ∷ rest) base (FunctionTy (bare w) (parameter_types g.parameters) g.variadic) p d);
+            proper = λ fixed l p. subst (λ c. IsProper v (FunctionTy (bare_type w) (parameter_types g.parameters) c)) h.1
+                (derived-any v (env u.state) l.unit.layouts fixed false (ByFunction (parameter_types g.parameters) g.variadic ∷ rest) base (FunctionTy (bare_type w) (parameter_types g.parameters) g.variadic) p d);
           }
 
-      by : (made w : Ty) (b c : Bool) → (if b then None else (if c then None else Some (FunctionTy (bare w) (parameter_types g.parameters) g.variadic))) ≡ Some made → head_of made g n u ≡ Some z
-          → derived false (env u.state) (ByFunction (parameter_types g.parameters) g.variadic ∷ rest) base ≡ Some made → IsDefined u base g z
+      by : (made w : Ty) (b c : Bool) → (if b then None else (if c then None else Some (FunctionTy (bare_type w) (parameter_types g.parameters) g.variadic))) ≡ Some made → head_of made g n u ≡ Some z
+          → derived_type false (env u.state) (ByFunction (parameter_types g.parameters) g.variadic ∷ rest) base ≡ Some made → IsDefined u base g z
       by made w true c f q d = absurd cc
       by made w false true f q d = absurd cc
       by made w false false f q d =
-          let same = some-same (FunctionTy (bare w) (parameter_types g.parameters) g.variadic) made f in
-          of w refl (subst (λ t. head_of t g n u ≡ Some z) (sym same) q) (subst (λ t. derived false (env u.state) (ByFunction (parameter_types g.parameters) g.variadic ∷ rest) base ≡ Some t) (sym same) d)
+          let same = some-same (FunctionTy (bare_type w) (parameter_types g.parameters) g.variadic) made f in
+          of w refl (subst (λ t. head_of t g n u ≡ Some z) (sym same) q) (subst (λ t. derived_type false (env u.state) (ByFunction (parameter_types g.parameters) g.variadic ∷ rest) base ≡ Some t) (sym same) d)
 
   -- a whole head: what it does, and what is known of the parameters behind the declarator
   record Header (u : UnitState) (z : Head × UnitState) : Type 0 where
@@ -474,8 +474,8 @@ parameters-are v done apart s t (p ∷ ps) (MoreTys w ts) q d m k l =
               small = small v done (object_at v o).t (subst (IsProper v) (sym type) q.0) complete;
               named = apart o;
             },
-            subst (AreLike w) (sym type) (like-then w (bare p.t) p.t (like-back (bare p.t) w l.0) (unqualified-like p.t)),
-            subst (λ x. IsValueType (bare x)) (sym type) (held-value v (layouts v) p.t q.0 c m.0.held),
+            subst (AreLike w) (sym type) (like-then w (bare_type p.t) p.t (like-back (bare_type p.t) w l.0) (unqualified-like p.t)),
+            subst (λ x. IsValueType (bare_type x)) (sym type) (held-value v (layouts v) p.t q.0 c m.0.held),
           ),
           rest,
         )
@@ -486,7 +486,7 @@ module _ (v : WholeUnit) (done : IsFinished v) (apart : (o : ℕ) → (object_at
   within-orderly : (x : Scope) (s : State) → AreKnownNames (length s.unit.functions) x → Orderly s → Orderly (within x s)
   within-orderly x s k h = record { names = each_append (AreKnownNames (length s.unit.functions)) s.scopes (x ∷ []) h.names (k, tt); uses = h.uses; sources = h.sources; written = h.written; ended = h.ended; laid = h.laid; apart = h.apart }
 
-  within-moves : (x : Scope) (s t : State) → AreKnownNames (length s.unit.functions) x → Moves ⊥ v [] (within x s) t → Moves U v [] s (left t)
+  within-moves : (x : Scope) (s t : State) → AreKnownNames (length s.unit.functions) x → Moves ⊥ v [] (within x s) t → Moves U v [] s (behind_scope t)
   within-moves x s t known m =
       let same = left-within x s.scopes t.scopes m.outer in
       record {
@@ -508,7 +508,7 @@ module _ (v : WholeUnit) (done : IsFinished v) (apart : (o : ℕ) → (object_at
       let l = length-append s.scopes (x ∷ []) in
       record { unit = h.unit; some = omega (arith, l); scopes = each_append (IsScope v (length s.unit.functions)) s.scopes (x ∷ []) h.scopes (k, tt) }
 
-  left-proper-within : (x : Scope) (s t : State) → 0 < length s.scopes → Outer (within x s).scopes t.scopes → IsProperState v t → IsProperState v (left t)
+  left-proper-within : (x : Scope) (s t : State) → 0 < length s.scopes → Outer (within x s).scopes t.scopes → IsProperState v t → IsProperState v (behind_scope t)
   left-proper-within x s t some outer h =
       let same = left-within x s.scopes t.scopes outer in
       record { unit = h.unit; some = subst (λ (ts : List Scope). 0 < length ts) (sym same) some; scopes = each-take (IsScope v (length t.unit.functions)) (length t.scopes - 1) t.scopes h.scopes }
@@ -533,7 +533,7 @@ module _ (v : WholeUnit) (done : IsFinished v) (apart : (o : ℕ) → (object_at
           names = i.names;
           entities = each_weaker (IsEntityOf (Some f) s.unit) (IsEntityOf None (with_function f y s).unit) (λ (e : Entity) q. kept e few q) u.entities i.entities;
           functions = λ g lt. at g (omega (arith, lt, few)) (i.functions g (omega (arith, lt, few)));
-          found = found-set s.unit.functions (innermost s.scopes).names f y named i.found;
+          found = found-set s.unit.functions (innermost_scope s.scopes).names f y named i.found;
         };
         is = λ b l z. record {
           proper = record {
@@ -613,7 +613,7 @@ module _ (v : WholeUnit) (done : IsFinished v) (apart : (o : ℕ) → (object_at
 
   -- 6.9.1: the function is well typed
   function-is : (u : UnitState) (z : Head × UnitState) (k : Header v done u z) (line : ℕ) (items : Trees) → TreesCharacters items → (x : After (List TypedStatement)) → typed_items (body_of k.result) items (within k.list.scope z.1.state) ≡ Some x
-      → IsProperState v z.1.state × IsReady k → Later (left x.state) v → Stays v (record z.1 { state = left x.state }) → (params : List ℕ) → params ≡ [] → FunctionIs v k.head.function (defined-function (objects-of k.list.parameters) (block_of line x.value) (record (function_at (left x.state).unit k.head.function) { params = params }))
+      → IsProperState v z.1.state × IsReady k → Later (behind_scope x.state) v → Stays v (record z.1 { state = behind_scope x.state }) → (params : List ℕ) → params ≡ [] → FunctionIs v k.head.function (defined-function (objects-of k.list.parameters) (block_of line x.value) (record (function_at (behind_scope x.state).unit k.head.function) { params = params }))
   function-is u z k line items c x q ready l st params none r ts e =
       let ps = k.list.parameters in
       let os = objects-of ps in
@@ -630,7 +630,7 @@ module _ (v : WholeUnit) (done : IsFinished v) (apart : (o : ℕ) → (object_at
       let returns = returns-of v k.result r ready.1.2.0 both.0 in
       let typed = ((items-give v done apart (initializer-inside v done) (body_of k.result) r returns items c s0 i4.evaluated).held x q).1 lx tt (within-proper k.list.scope u4.state ready.1.1 ready.0) in
       let h = typed.1 in
-      let kept : Kept v x.state = λ o lt plain. st o lt (λ j. no-object (Some k.head.function) u4.entities (left x.state) (each_weaker (IsEntityOf (Some k.head.function) u4.state.unit) (IsEntityOf (Some k.head.function) (left x.state).unit) (λ (y : Entity) w. entity-kept (Some k.head.function) u4.state (left x.state) U v [] n y w) u4.entities i4.entities) o plain j) in
+      let kept : Kept v x.state = λ o lt plain. st o lt (λ j. no-object (Some k.head.function) u4.entities (behind_scope x.state) (each_weaker (IsEntityOf (Some k.head.function) u4.state.unit) (IsEntityOf (Some k.head.function) (behind_scope x.state).unit) (λ (y : Entity) w. entity-kept (Some k.head.function) u4.state (behind_scope x.state) U v [] n y w) u4.entities i4.entities) o plain j) in
       let st4 : Stays v u4 = λ o lt apart. let more = n.count in st o (omega (arith, more, lt)) apart ∙ n.older o lt in
       let here : Here v os s0 = record {
         evaluated = i4.evaluated;
@@ -661,24 +661,24 @@ module _ (v : WholeUnit) (done : IsFinished v) (apart : (o : ℕ) → (object_at
       at x.0 x.1 x.2
     where
       at : (x : After (List TypedStatement)) → typed_items (body_of k.result) items (within k.list.scope z.1.state) ≡ Some x
-          → Some (record z.1 { state = with_definition k.head.function k.list.parameters line x.value (left x.state) }) ≡ Some w → Goes (IsReady k) v None z.1 w
+          → Some (record z.1 { state = with_definition k.head.function k.list.parameters line x.value (behind_scope x.state) }) ≡ Some w → Goes (IsReady k) v None z.1 w
       at x q r =
           let f = k.head.function in
           let s0 = within k.list.scope z.1.state in
           let i4 = k.head.goes.unit in
           let walked = (items-give v done apart (initializer-inside v done) (body_of k.result) k.result (returns-same k.result) items c s0 i4.evaluated).held x q in
           let n = within-moves k.list.scope z.1.state x.state k.known walked.0 in
-          let five : UnitState = record z.1 { state = left x.state } in
-          let g5 = state-goes (IsReady k) v (Some f) z.1 (left x.state) i4 n
+          let five : UnitState = record z.1 { state = behind_scope x.state } in
+          let g5 = state-goes (IsReady k) v (Some f) z.1 (behind_scope x.state) i4 n
           (λ b l p. let y = walked.1 (record { unit = l.unit; used = l.used }) tt (within-proper k.list.scope z.1.state b.1 p) in (left-proper-within k.list.scope z.1.state x.state p.some walked.0.outer y.0, y.2)) in
-          let same : function_at (left x.state).unit f ≡ function_at z.1.state.unit f = ap (λ (fs : List TypedFunction). get_or fs f no_function) n.functions in
-          let there : f < length (left x.state).unit.functions = subst (λ (fs : List TypedFunction). f < length fs) (sym n.functions) k.head.there in
-          let none : (function_at (left x.state).unit f).params ≡ [] = ap (λ (y : TypedFunction). y.params) same ∙ (i4.functions f k.head.there).unset k.head.unset in
-          let y = defined-function (objects-of k.list.parameters) (block_of line x.value) (function_at (left x.state).unit f) in
+          let same : function_at (behind_scope x.state).unit f ≡ function_at z.1.state.unit f = ap (λ (fs : List TypedFunction). get_or fs f no_function) n.functions in
+          let there : f < length (behind_scope x.state).unit.functions = subst (λ (fs : List TypedFunction). f < length fs) (sym n.functions) k.head.there in
+          let none : (function_at (behind_scope x.state).unit f).params ≡ [] = ap (λ (y : TypedFunction). y.params) same ∙ (i4.functions f k.head.there).unset k.head.unset in
+          let y = defined-function (objects-of k.list.parameters) (block_of line x.value) (function_at (behind_scope x.state).unit f) in
           let last = defined-goes (IsProperState v z.1.state × IsReady k) f y five g5.unit there k.head.marked refl refl (subst (λ (y : TypedFunction). IsFixed y.t) (sym same) (k.head.fixed refl)) refl
-          (λ b l st. function-is u z k line items c x q b (with-function-later v f y (left x.state) refl (same-signs (function_at (left x.state).unit f).t) l) st (function_at (left x.state).unit f).params none) in
-          subst (Goes (IsReady k) v None z.1) (ap (λ t. record z.1 { state = t }) (sym (with-definition-is f k.list.parameters line x.value (left x.state) there)) ∙ some-same (record z.1 { state = with_definition f k.list.parameters line x.value (left x.state) }) w r)
-          (lead-goes (IsReady k) (IsProperState v z.1.state × IsReady k) v (Some f) None z.1 five (record z.1 { state = with_function f y (left x.state) }) g5 (λ b l p. (p.proper, b)) last)
+          (λ b l st. function-is u z k line items c x q b (with-function-later v f y (behind_scope x.state) refl (same-signs (function_at (behind_scope x.state).unit f).t) l) st (function_at (behind_scope x.state).unit f).params none) in
+          subst (Goes (IsReady k) v None z.1) (ap (λ t. record z.1 { state = t }) (sym (with-definition-is f k.list.parameters line x.value (behind_scope x.state) there)) ∙ some-same (record z.1 { state = with_definition f k.list.parameters line x.value (behind_scope x.state) }) w r)
+          (lead-goes (IsReady k) (IsProperState v z.1.state × IsReady k) v (Some f) None z.1 five (record z.1 { state = with_function f y (behind_scope x.state) }) g5 (λ b l p. (p.proper, b)) last)
 
   none-some : (w : UnitState) → None ≡ Some w → ⊥
   none-some w e = absurd cc

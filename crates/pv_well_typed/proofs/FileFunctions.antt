@@ -12,15 +12,15 @@ use Rattle.pv_typed.specs.Mains.{named_main}
 use Rattle.pv_typed.proofs.Each.{each_append, each_weaker}
 use Rattle.pv_typed.specs.TypedUnits.{WholeUnit, TypedFunction, function_at, name_at}
 use Rattle.pv_typed.specs.UnitParts.{no_function}
-use Rattle.pv_check.specs.Composite.{composite}
+use Rattle.pv_check.specs.Composite.{composite_of}
 use Rattle.pv_library.specs.LibraryNames.{library_named}
 use Rattle.pv_typed.specs.TypedTree.{is_function}
 use Rattle.pv_check.specs.State.{State, Scope, Meaning, ObjectName, FunctionName, TypedefOf, ConstantOf, Used, UsedObject, UsedFunction, PointedFunction}
-use Rattle.pv_check.specs.Scopes.{no_scope, innermost, find}
-use Rattle.pv_check.specs.ScopeParts.{bound}
+use Rattle.pv_check.specs.Scopes.{no_scope, innermost_scope, find}
+use Rattle.pv_check.specs.ScopeParts.{with_meaning}
 use Rattle.pv_unit.specs.Redeclarations.{Entity, UnitState, unit_name, is_initialized, entity, with_function, with_function_type, new_function, with_new_function, function_again, may_have, function_declared}
 use Rattle.pv_unit.specs.EntityParts.{function_found}
-use Rattle.pv_unit.specs.Declarations.{noted}
+use Rattle.pv_unit.specs.Declarations.{after_declaration}
 use Rattle.pv_unit.specs.DeclarationParts.{plain_function}
 use Rattle.pv_guards.specs.TypedStatements.{IsDefinition}
 use Rattle.pv_well_typed.specs.Later.{IsFinished}
@@ -39,7 +39,7 @@ use Rattle.pv_well_typed.proofs.FunctionTypes.{main-is, composite-main, composit
 
 module _ (v : WholeUnit) (done : IsFinished v) where
   -- the composite type's signature is that of the newer type
-  newer-signs : (t u : Ty) → is_function t ≡ true → Matches t u → Signs u (composite t u)
+  newer-signs : (t u : Ty) → is_function t ≡ true → Matches t u → Signs u (composite_of t u)
   newer-signs t u f m w h r ts e = compatible-signs t u f m w (composite-signs v t u w h) r ts e
 
   -- ---- 6.2.1p7: a new function
@@ -106,7 +106,7 @@ module _ (v : WholeUnit) (done : IsFinished v) where
       (λ (x : Scope) q. each_weaker (λ (e : ℕ × Meaning). IsKnownMeaning (functions-of s) e.1) (λ (e : ℕ × Meaning). IsKnownMeaning k e.1) (λ (e : ℕ × Meaning) z. known-more (functions-of s) k more e.1 z) x.names q) s.scopes h.names in
       record {
         names = each-set (AreKnownNames k) s.scopes (length s.scopes - 1) _ names
-            (each-bound (IsKnownMeaning k) n (FunctionName (functions-of s)) (innermost s.scopes).names (omega (arith, few)) (each-at (AreKnownNames k) no_scope s.scopes (length s.scopes - 1) tt names));
+            (each-bound (IsKnownMeaning k) n (FunctionName (functions-of s)) (innermost_scope s.scopes).names (omega (arith, few)) (each-at (AreKnownNames k) no_scope s.scopes (length s.scopes - 1) tt names));
         uses = each_weaker (IsKnownUse s.unit.names s.unit.functions) (IsKnownUse s.unit.names (s.unit.functions ++ (fresh-function n line t ∷ [])))
             (λ (x : Used) q. use-more s.unit.names s.unit.functions (fresh-function n line t ∷ []) x q) s.used h.uses;
         sources = h.sources;
@@ -123,12 +123,12 @@ module _ (v : WholeUnit) (done : IsFinished v) where
       let more : functions-of s ≤ k = omega (arith, few) in
       let scopes = each_weaker (IsScope v (functions-of s)) (IsScope v k) (λ (x : Scope) q. scope-more (functions-of s) k more x q) s.scopes h.scopes in
       let inner = inner-scope v k s.scopes scopes in
-      let size = length-set s.scopes (length s.scopes - 1) (record (innermost s.scopes) { names = bound n (FunctionName (functions-of s)) (innermost s.scopes).names }) in
+      let size = length-set s.scopes (length s.scopes - 1) (record (innermost_scope s.scopes) { names = with_meaning n (FunctionName (functions-of s)) (innermost_scope s.scopes).names }) in
       let some = h.some in
       record {
         unit = record { objects = h.unit.objects; functions = λ f lt. at f (either f (functions-of s)) lt few; completed = h.unit.completed };
         some = omega (arith, size, some);
-        scopes = each-set (IsScope v k) s.scopes (length s.scopes - 1) _ scopes (each-bound (IsMeaning v k) n (FunctionName (functions-of s)) (innermost s.scopes).names (omega (arith, few)) inner.0, inner.1);
+        scopes = each-set (IsScope v k) s.scopes (length s.scopes - 1) _ scopes (each-bound (IsMeaning v k) n (FunctionName (functions-of s)) (innermost_scope s.scopes).names (omega (arith, few)) inner.0, inner.1);
       }
     where
       either : (o n : ℕ) → (o < n) ⊎ (n ≤ o)
@@ -147,11 +147,11 @@ module _ (v : WholeUnit) (done : IsFinished v) where
   abbrev MayType : UnitState → ℕ → Ty → Type 0
   MayType u n t = (is_function t ≡ true) × (may_have u.state.unit.names (unit_name n) t ≡ true)
 
-  new-function-goes : (k : Option ℕ) (n line : ℕ) (t : Ty) (u : UnitState) → IsUnit v k u → MayType u n t → find (innermost u.state.scopes).names n ≡ None → Goes (IsProper v t) v k u (with_new_function n line t u).1
+  new-function-goes : (k : Option ℕ) (n line : ℕ) (t : Ty) (u : UnitState) → IsUnit v k u → MayType u n t → find (innermost_scope u.state.scopes).names n ≡ None → Goes (IsProper v t) v k u (with_new_function n line t u).1
   new-function-goes k n line t u i may none =
       let s = u.state in
       let few = length-append s.unit.functions (fresh-function n line t ∷ []) in
-      let size = length-set s.scopes (length s.scopes - 1) (record (innermost s.scopes) { names = bound n (FunctionName (functions-of s)) (innermost s.scopes).names }) in
+      let size = length-set s.scopes (length s.scopes - 1) (record (innermost_scope s.scopes) { names = with_meaning n (FunctionName (functions-of s)) (innermost_scope s.scopes).names }) in
       record {
         later = λ l. new-function-later v n line t s l;
         grown = λ g o lt. g o lt;
@@ -177,8 +177,8 @@ module _ (v : WholeUnit) (done : IsFinished v) where
               );
           functions = λ f lt. at f (either f (functions-of s)) lt few;
           found = subst (λ (z : Scope). AreFound (s.unit.functions ++ (fresh-function n line t ∷ [])) z.names)
-              (sym (inner-set s.scopes (record (innermost s.scopes) { names = bound n (FunctionName (functions-of s)) (innermost s.scopes).names }) (let file = i.file in omega (arith, file))))
-              (found-new s.unit.functions (innermost s.scopes).names (fresh-function n line t) n (FunctionName (functions-of s)) refl none i.found);
+              (sym (inner-set s.scopes (record (innermost_scope s.scopes) { names = with_meaning n (FunctionName (functions-of s)) (innermost_scope s.scopes).names }) (let file = i.file in omega (arith, file))))
+              (found-new s.unit.functions (innermost_scope s.scopes).names (fresh-function n line t) n (FunctionName (functions-of s)) refl none i.found);
         };
         is = λ p l z. record {
           proper = new-proper n line t s (may-type v s.unit.names (unit_name n) t may.0 (may-have s.unit.names (unit_name n) t may.1) p) z.proper;
@@ -285,7 +285,7 @@ module _ (v : WholeUnit) (done : IsFinished v) where
           names = i.names;
           entities = each_weaker (IsEntityOf k s.unit) (IsEntityOf k (with_function f y s).unit) (λ (e : Entity) q. kept e few q) u.entities i.entities;
           functions = λ g lt. at g (omega (arith, lt, few)) (i.functions g (omega (arith, lt, few)));
-          found = found-set s.unit.functions (innermost s.scopes).names f y c.named i.found;
+          found = found-set s.unit.functions (innermost_scope s.scopes).names f y c.named i.found;
         };
         is = λ b l z. record {
           proper = record {
@@ -342,17 +342,17 @@ module _ (v : WholeUnit) (done : IsFinished v) where
 
   -- 6.2.7p4: its type is the composite one
   composed-function-goes : (k : Option ℕ) (f : ℕ) (t : Ty) (u : UnitState) → IsUnit v k u → f < functions-of u.state → is_function t ≡ true → are_compatible (function_at u.state.unit f).t t ≡ true
-      → Goes (IsProper v t) v k u (record u { state = with_function_type f (composite (function_at u.state.unit f).t t) u.state })
+      → Goes (IsProper v t) v k u (record u { state = with_function_type f (composite_of (function_at u.state.unit f).t t) u.state })
   composed-function-goes k f t u i there g c =
       let x = function_at u.state.unit f in
-      changed-goes (IsProper v t) k f (record x { t = composite x.t t }) u i (record {
+      changed-goes (IsProper v t) k f (record x { t = composite_of x.t t }) u i (record {
         named = refl;
         body = refl;
         params = refl;
         signs = composite-signs v x.t t;
         shape = composite-shape x.t t;
         fixed = composite-fixed x.t t;
-        main = λ e. ap (λ w. composite w t) e ∙ composite-main t;
+        main = λ e. ap (λ w. composite_of w t) e ∙ composite-main t;
       })
       (λ p z lt. composite-function v (library_named (name_at u.state.unit x.name)) x.t t c (i.functions f there).shape g (z.proper.unit.functions f lt) p)
 
@@ -367,7 +367,7 @@ module _ (v : WholeUnit) (done : IsFinished v) where
   as-function : (B : Type 0) (k : Option ℕ) (u : UnitState) (t : Ty) (x a : ℕ × UnitState) → Some x ≡ Some a → FunctionAt B k u t x → FunctionAt B k u t a
   as-function B k u t x a e h = subst (FunctionAt B k u t) (some-same x a e) h
 
-  function-again-goes : (k : Option ℕ) (m : Option Meaning) (n line : ℕ) (t : Ty) (u : UnitState) → IsUnit v k u → MayType u n t → ((f : ℕ) → m ≡ Some (FunctionName f) → f < functions-of u.state) → find (innermost u.state.scopes).names n ≡ m → (a : ℕ × UnitState)
+  function-again-goes : (k : Option ℕ) (m : Option Meaning) (n line : ℕ) (t : Ty) (u : UnitState) → IsUnit v k u → MayType u n t → ((f : ℕ) → m ≡ Some (FunctionName f) → f < functions-of u.state) → find (innermost_scope u.state.scopes).names n ≡ m → (a : ℕ × UnitState)
       → function_again m n line t u ≡ Some a → FunctionAt (IsProper v t) k u t a
   function-again-goes k None n line t u i may f found a e =
       let few = length-append u.state.unit.functions (fresh-function n line t ∷ []) in
@@ -379,17 +379,17 @@ module _ (v : WholeUnit) (done : IsFinished v) where
       })
   function-again-goes k (Some (FunctionName g)) n line t u i may f found a e = by (are_compatible (function_at u.state.unit g).t t) refl e
     where
-      by : (b : Bool) → are_compatible (function_at u.state.unit g).t t ≡ b → (if b then Some (g, record u { state = with_function_type g (composite (function_at u.state.unit g).t t) u.state }) else None) ≡ Some a
+      by : (b : Bool) → are_compatible (function_at u.state.unit g).t t ≡ b → (if b then Some (g, record u { state = with_function_type g (composite_of (function_at u.state.unit g).t t) u.state }) else None) ≡ Some a
           → FunctionAt (IsProper v t) k u t a
       by true c q =
           let x = function_at u.state.unit g in
-          let few = length-set u.state.unit.functions g (record x { t = composite x.t t }) in
+          let few = length-set u.state.unit.functions g (record x { t = composite_of x.t t }) in
           let there = f g refl in
-          as-function (IsProper v t) k u t (g, record u { state = with_function_type g (composite x.t t) u.state }) a q (record {
+          as-function (IsProper v t) k u t (g, record u { state = with_function_type g (composite_of x.t t) u.state }) a q (record {
             goes = composed-function-goes k g t u i there may.0 c;
             there = omega (arith, few, there);
-            signs = subst (λ (z : TypedFunction). Signs t z.t) (sym (set-same no_function u.state.unit.functions g (record x { t = composite x.t t }) there)) (newer-signs x.t t (i.functions g there).shape (matching x.t t c));
-            fixed = λ h. subst (λ (z : TypedFunction). IsFixed z.t) (sym (set-same no_function u.state.unit.functions g (record x { t = composite x.t t }) there)) (fixed-back x.t t (i.functions g there).shape may.0 (matching x.t t c) h);
+            signs = subst (λ (z : TypedFunction). Signs t z.t) (sym (set-same no_function u.state.unit.functions g (record x { t = composite_of x.t t }) there)) (newer-signs x.t t (i.functions g there).shape (matching x.t t c));
+            fixed = λ h. subst (λ (z : TypedFunction). IsFixed z.t) (sym (set-same no_function u.state.unit.functions g (record x { t = composite_of x.t t }) there)) (fixed-back x.t t (i.functions g there).shape may.0 (matching x.t t c) h);
           })
       by false c q = absurd cc
   function-again-goes k (Some (ObjectName o)) n line t u i may f found a e = absurd cc
@@ -401,14 +401,14 @@ module _ (v : WholeUnit) (done : IsFinished v) where
     where
       by : (b : Bool) → may_have u.state.unit.names (unit_name n) t ≡ b → (if b then function_found n line t u else None) ≡ Some a → FunctionAt (IsProper v t) k u t a
       by true m q =
-          function-again-goes k (find (innermost u.state.scopes).names n) n line t u i (g, m)
-          (λ f r. find-each (IsKnownMeaning (functions-of u.state)) n (innermost u.state.scopes).names (each-at (AreKnownNames (functions-of u.state)) no_scope u.state.scopes (length u.state.scopes - 1) tt i.orderly.names) (FunctionName f) r) refl a q
+          function-again-goes k (find (innermost_scope u.state.scopes).names n) n line t u i (g, m)
+          (λ f r. find-each (IsKnownMeaning (functions-of u.state)) n (innermost_scope u.state.scopes).names (each-at (AreKnownNames (functions-of u.state)) no_scope u.state.scopes (length u.state.scopes - 1) tt i.orderly.names) (FunctionName f) r) refl a q
       by false m q = absurd cc
 
   -- 6.7.6.3: without a body
   pub plain-function-goes : (k : Option ℕ) (t : Ty) (n : ℕ × ℕ) (unsized : Bool) (u w : UnitState) → IsUnit v k u → is_function t ≡ true → plain_function t n unsized u ≡ Some w → Goes (IsProper v t) v k u w
   plain-function-goes k t n unsized u w i g e =
-      let a = from-some (function_declared n.0 n.1 t u) (λ a. Some (noted true a.0 false false unsized a.1)) w e in
+      let a = from-some (function_declared n.0 n.1 t u) (λ a. Some (after_declaration true a.0 false false unsized a.1)) w e in
       let h = (function-declared k n.0 n.1 t u i g a.0 a.1).goes in
-      as-goes v done (IsProper v t) k u (noted true a.0.0 false false unsized a.0.1) w a.2
-      (then-goes (IsProper v t) v k u a.0.1 (noted true a.0.0 false false unsized a.0.1) h (noted-goes v done (IsProper v t) k a.0.1 true a.0.0 false false unsized h.unit (λ q. (refl, refl))))
+      as-goes v done (IsProper v t) k u (after_declaration true a.0.0 false false unsized a.0.1) w a.2
+      (then-goes (IsProper v t) v k u a.0.1 (after_declaration true a.0.0 false false unsized a.0.1) h (noted-goes v done (IsProper v t) k a.0.1 true a.0.0 false false unsized h.unit (λ q. (refl, refl))))

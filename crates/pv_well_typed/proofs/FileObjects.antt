@@ -14,23 +14,23 @@ use Rattle.pv_typed.specs.Known.{Each}
 use Rattle.pv_typed.proofs.Each.{each_append, each_weaker}
 use Rattle.pv_typed.specs.TypedUnits.{WholeUnit, TypedObject, Store, layouts, object_at}
 use Rattle.pv_typed.specs.UnitParts.{no_object}
-use Rattle.pv_check.specs.Composite.{composite}
+use Rattle.pv_check.specs.Composite.{composite_of}
 use Rattle.pv_types.specs.SameTypes.{same_type as same}
 use Rattle.pv_typed.specs.TypedTree.{is_function}
 use Rattle.pv_check.specs.State.{State, After, Scope, Meaning, ObjectName, FunctionName, TypedefOf, ConstantOf, env}
-use Rattle.pv_check.specs.Scopes.{innermost, find, bind}
+use Rattle.pv_check.specs.Scopes.{innermost_scope, find, bind}
 use Rattle.pv_typed.specs.Constants.{and_then}
 use Rattle.pv_typed.specs.Mains.{named_main}
 use Rattle.pv_unit.specs.MainType.{main_type}
-use Rattle.pv_unit.specs.Redeclarations.{Entity, UnitState, unit_name, is_entity, marked, is_initialized, entity, with_object_type, new_object, with_new_object, object_again, object_declared}
-use Rattle.pv_unit.specs.Declarations.{typedef_again, typedef_found, typedef_declared, noted, object_initialized}
+use Rattle.pv_unit.specs.Redeclarations.{Entity, UnitState, unit_name, is_entity, entities_after, is_initialized, entity, with_object_type, new_object, with_new_object, object_again, object_declared}
+use Rattle.pv_unit.specs.Declarations.{typedef_again, typedef_found, typedef_declared, after_declaration, object_initialized}
 use Rattle.pv_unit.specs.DeclarationParts.{object_noted, plain_object}
 use Rattle.pv_unit.specs.Initializers as init
 use Rattle.pv_unit.specs.InitializerParts.{is_braced}
-use Rattle.pv_unit.specs.Initializers.{Stores, Given, initialized_object, given, whole}
+use Rattle.pv_unit.specs.Initializers.{Stores, Given, initialized_object, given_to, whole_object}
 use Rattle.pv_unit.specs.Rules as rules
-use Rattle.pv_unit.specs.Parts.{sized, can_be_initialized}
-use Rattle.pv_unit.specs.ValueRules.{lowered, values, initialized, with_given}
+use Rattle.pv_unit.specs.Parts.{with_size, can_be_initialized}
+use Rattle.pv_unit.specs.ValueRules.{to_expressions, values, typed_initializer, with_given}
 use Rattle.pv_check.specs.declared.specifiers.Storage.{Storage}
 use Rattle.pv_guards.specs.TypedStatements.{IsConstant}
 use Rattle.pv_well_typed.proofs.SourceCharacters.{InitializerCharacters}
@@ -59,7 +59,7 @@ or-false true = refl
 or-false false = refl
 
 -- of an object, or no more than that a function is declared
-marked-kept : (g : Bool) (j : ℕ) (d i b : Bool) (k : Option ℕ) (u : WholeUnit) (es : List Entity) → (g ≡ true → (d ≡ false) × (i ≡ false)) → Each (IsEntityOf k u) es → Each (IsEntityOf k u) (marked g j d i b es)
+marked-kept : (g : Bool) (j : ℕ) (d i b : Bool) (k : Option ℕ) (u : WholeUnit) (es : List Entity) → (g ≡ true → (d ≡ false) × (i ≡ false)) → Each (IsEntityOf k u) es → Each (IsEntityOf k u) (entities_after g j d i b es)
 marked-kept g j d i b k u [] plain h = tt
 marked-kept g j d i b k u (e ∷ es) plain h = by (marked-kept g j d i b k u es plain h.1) (is_entity g j e) refl
   where
@@ -73,16 +73,16 @@ marked-kept g j d i b k u (e ∷ es) plain h = by (marked-kept g j d i b k u es 
       defined = λ f t. h.0.defined f (sym (or-false e.defined) ∙ ap (λ c. e.defined || c) (sym (plain (function-is q f)).0) ∙ t);
     }
 
-    by : Each (IsEntityOf k u) (marked g j d i b es) → (c : Bool) → is_entity g j e ≡ c
-        → Each (IsEntityOf k u) (if c then record e { defined = e.defined || d; initialized = e.initialized || i; unsized = e.unsized || b } ∷ es else e ∷ marked g j d i b es)
+    by : Each (IsEntityOf k u) (entities_after g j d i b es) → (c : Bool) → is_entity g j e ≡ c
+        → Each (IsEntityOf k u) (if c then record e { defined = e.defined || d; initialized = e.initialized || i; unsized = e.unsized || b } ∷ es else e ∷ entities_after g j d i b es)
     by rest true q = (more q, h.1)
     by rest false q = (h.0, rest)
 
 -- 6.2.7p3: no smaller than the older type
-pub composite-wider : (es : List Entry) (t u : Ty) → (layout_in es t).size ≤ (layout_in es (composite t u)).size
+pub composite-wider : (es : List Entry) (t u : Ty) → (layout_in es t).size ≤ (layout_in es (composite_of t u)).size
 composite-wider es (PointerTo t) (PointerTo u) = omega arith
 composite-wider es (ArrayOf t None) (ArrayOf u n) = omega arith
-composite-wider es (ArrayOf t (Some m)) (ArrayOf u n) = wider m (layout_in es t).size (layout_in es (composite t u)).size (composite-wider es t u)
+composite-wider es (ArrayOf t (Some m)) (ArrayOf u n) = wider m (layout_in es t).size (layout_in es (composite_of t u)).size (composite-wider es t u)
   where
     wider : (m a b : ℕ) → a ≤ b → m * a ≤ m * b
     wider m a b le = grind arith
@@ -91,17 +91,17 @@ composite-wider es (ConstOf t) (ConstOf u) = composite-wider es t u
 composite-wider es _ _ = omega arith
 
 composite-grown : (es : List Entry) (t u : Ty)
-    → or_zero (if is_complete_in es t then up_to (layout_in es t).size else None) ≤ or_zero (if is_complete_in es (composite t u) then up_to (layout_in es (composite t u)).size else None)
+    → or_zero (if is_complete_in es t then up_to (layout_in es t).size else None) ≤ or_zero (if is_complete_in es (composite_of t u) then up_to (layout_in es (composite_of t u)).size else None)
 composite-grown es t u = by (is_complete_in es t) refl
   where
     by : (b : Bool) → is_complete_in es t ≡ b
-        → or_zero (if b then up_to (layout_in es t).size else None) ≤ or_zero (if is_complete_in es (composite t u) then up_to (layout_in es (composite t u)).size else None)
+        → or_zero (if b then up_to (layout_in es t).size else None) ≤ or_zero (if is_complete_in es (composite_of t u) then up_to (layout_in es (composite_of t u)).size else None)
     by false e = omega arith
     by true e =
-        subst (λ c. or_zero (up_to (layout_in es t).size) ≤ or_zero (if c then up_to (layout_in es (composite t u)).size else None)) (sym (composite-complete es t u e))
+        subst (λ c. or_zero (up_to (layout_in es t).size) ≤ or_zero (if c then up_to (layout_in es (composite_of t u)).size else None)) (sym (composite-complete es t u e))
         (subst (λ n. or_zero (up_to (layout_in es t).size) ≤ or_zero (up_to n)) (sym (composite-size es t u e)) (omega arith))
 
-sized-wider : (es : List Entry) (t : Ty) (n : ℕ) → (layout_in es t).size ≤ (layout_in es (sized t n)).size
+sized-wider : (es : List Entry) (t : Ty) (n : ℕ) → (layout_in es t).size ≤ (layout_in es (with_size t n)).size
 sized-wider es (ArrayOf t None) n = omega arith
 sized-wider es (ArrayOf t (Some m)) n = omega arith
 sized-wider es VoidTy n = omega arith
@@ -140,9 +140,9 @@ module _ (v : WholeUnit) (done : IsFinished v) where
     };
   }
 
-  pub noted-goes : (B : Type 0) (k : Option ℕ) (u : UnitState) (g : Bool) (j : ℕ) (d i b : Bool) → IsUnit v k u → (g ≡ true → (d ≡ false) × (i ≡ false)) → Goes B v k u (noted g j d i b u)
+  pub noted-goes : (B : Type 0) (k : Option ℕ) (u : UnitState) (g : Bool) (j : ℕ) (d i b : Bool) → IsUnit v k u → (g ≡ true → (d ≡ false) × (i ≡ false)) → Goes B v k u (after_declaration g j d i b u)
   noted-goes B k u g j d i b h plain =
-      entities-goes B k u (marked g j d i b u.entities) h (λ f n q. marked-has g j d i b f n u.entities q) (λ f n q. has-marked g j d i b f n u.entities q) (λ n q. initialized-marked g j d i b n u.entities q) (marked-kept g j d i b k u.state.unit u.entities plain h.entities)
+      entities-goes B k u (entities_after g j d i b u.entities) h (λ f n q. marked-has g j d i b f n u.entities q) (λ f n q. has-marked g j d i b f n u.entities q) (λ n q. initialized-marked g j d i b n u.entities q) (marked-kept g j d i b k u.state.unit u.entities plain h.entities)
 
   no-function : {A : Type 0} → false ≡ true → A
   no-function e = absurd cc
@@ -192,7 +192,7 @@ module _ (v : WholeUnit) (done : IsFinished v) where
             tt,
           );
           functions = λ f lt. let z = i.functions f lt in record { declared = has-front true f u.entities (entity n false (count s) ∷ []) z.declared; shape = z.shape; fixed = z.fixed; unset = z.unset; fresh = λ q. z.fresh (initialized-front f u.entities (entity n false (count s) ∷ []) q); main = z.main };
-          found = found-more s.unit.functions w.unit.functions (innermost s.scopes).names (innermost w.scopes).names m.functions m.outer.finds i.found;
+          found = found-more s.unit.functions w.unit.functions (innermost_scope s.scopes).names (innermost_scope w.scopes).names m.functions m.outer.finds i.found;
         };
         is = λ p l z. record {
           proper = new-object-proper v n line t true s p z.proper;
@@ -289,15 +289,15 @@ module _ (v : WholeUnit) (done : IsFinished v) where
 
   -- 6.2.7p4: its type is the composite one
   composed-goes : (k : Option ℕ) (o : ℕ) (t : Ty) (u : UnitState) → IsUnit v k u → HasEntity false o u.entities → are_compatible (object_at u.state.unit o).t t ≡ true
-      → Goes (IsProper v t) v k u (record u { state = with_object_type o (composite (object_at u.state.unit o).t t) u.state })
+      → Goes (IsProper v t) v k u (record u { state = with_object_type o (composite_of (object_at u.state.unit o).t t) u.state })
   composed-goes k o t u i e c =
       let x = object_at u.state.unit o in
-      set-goes (IsProper v t) k o (record x { t = composite x.t t }) u i e (refl, composite-grown (env u.state) x.t t, refl)
+      set-goes (IsProper v t) k o (record x { t = composite_of x.t t }) u i e (refl, composite-grown (env u.state) x.t t, refl)
       (λ p l z.
       let there = object-known k u i o e in
       let old = each-at (λ (y : TypedObject). IsProper v y.t) no_object u.state.unit.objects o tt z.proper.unit.objects in (
         proper-composite v x.t t (matching x.t t c) old p,
-        λ g. wider-constants x.t (composite x.t t) x.inits (composite-wider (layouts v) x.t t) ((z.objects g o there.0).constants there.1),
+        λ g. wider-constants x.t (composite_of x.t t) x.inits (composite-wider (layouts v) x.t t) ((z.objects g o there.0).constants there.1),
       ))
 
   -- ---- 6.7p4: a declaration of an object
@@ -307,10 +307,10 @@ module _ (v : WholeUnit) (done : IsFinished v) where
     pub declared : HasEntity false a.0 a.1.entities
 
   -- what a name of file scope stands for
-  name-entity : (k : Option ℕ) (u : UnitState) → IsUnit v k u → (n o : ℕ) → find (innermost u.state.scopes).names n ≡ Some (ObjectName o) → HasEntity false o u.entities
+  name-entity : (k : Option ℕ) (u : UnitState) → IsUnit v k u → (n o : ℕ) → find (innermost_scope u.state.scopes).names n ≡ Some (ObjectName o) → HasEntity false o u.entities
   name-entity k u i n o e =
       let inner = each-at (λ (x : Scope). Each (λ (e : ℕ × Meaning). IsVisible (blank v) (declared-objects u.entities) e.1) x.names) (record { names = []; tags = [] }) u.state.scopes (length u.state.scopes - 1) tt i.names in
-      declared-has o u.entities (find-each (IsVisible (blank v) (declared-objects u.entities)) n (innermost u.state.scopes).names inner (ObjectName o) e refl)
+      declared-has o u.entities (find-each (IsVisible (blank v) (declared-objects u.entities)) n (innermost_scope u.state.scopes).names inner (ObjectName o) e refl)
 
   as-object : (B : Type 0) (k : Option ℕ) (u : UnitState) (x a : ℕ × UnitState) → Some x ≡ Some a → ObjectAt B k u x → ObjectAt B k u a
   as-object B k u x a e h = subst (ObjectAt B k u) (some-same x a e) h
@@ -324,10 +324,10 @@ module _ (v : WholeUnit) (done : IsFinished v) where
       })
   again-goes k (Some (ObjectName o)) n line t u i f a e = by (are_compatible (object_at u.state.unit o).t t) refl e
     where
-      by : (b : Bool) → are_compatible (object_at u.state.unit o).t t ≡ b → (if b then Some (o, record u { state = with_object_type o (composite (object_at u.state.unit o).t t) u.state }) else None) ≡ Some a
+      by : (b : Bool) → are_compatible (object_at u.state.unit o).t t ≡ b → (if b then Some (o, record u { state = with_object_type o (composite_of (object_at u.state.unit o).t t) u.state }) else None) ≡ Some a
           → ObjectAt (IsProper v t) k u a
       by true c q =
-          as-object (IsProper v t) k u (o, record u { state = with_object_type o (composite (object_at u.state.unit o).t t) u.state }) a q (record { goes = composed-goes k o t u i (f o refl) c; declared = f o refl })
+          as-object (IsProper v t) k u (o, record u { state = with_object_type o (composite_of (object_at u.state.unit o).t t) u.state }) a q (record { goes = composed-goes k o t u i (f o refl) c; declared = f o refl })
       by false c q = absurd cc
   again-goes k (Some (FunctionName g)) n line t u i f a e = absurd cc
   again-goes k (Some (TypedefOf w)) n line t u i f a e = absurd cc
@@ -336,9 +336,9 @@ module _ (v : WholeUnit) (done : IsFinished v) where
   pub object-declared : (k : Option ℕ) (n line : ℕ) (t : Ty) (u : UnitState) → IsUnit v k u → (a : ℕ × UnitState) → object_declared n line t u ≡ Some a → ObjectAt (IsProper v t) k u a
   object-declared k n line t u i a e = by (named_main u.state.unit.names (unit_name n)) e
     where
-      by : (b : Bool) → (if b then None else object_again (find (innermost u.state.scopes).names n) n line t u) ≡ Some a → ObjectAt (IsProper v t) k u a
+      by : (b : Bool) → (if b then None else object_again (find (innermost_scope u.state.scopes).names n) n line t u) ≡ Some a → ObjectAt (IsProper v t) k u a
       by true q = absurd cc
-      by false q = again-goes k (find (innermost u.state.scopes).names n) n line t u i (λ o f. name-entity k u i n o f) a q
+      by false q = again-goes k (find (innermost_scope u.state.scopes).names n) n line t u i (λ o f. name-entity k u i n o f) a q
 
   pub as-goes : (B : Type 0) (k : Option ℕ) (u x w : UnitState) → Some x ≡ Some w → Goes B v k u x → Goes B v k u w
   as-goes B k u x w e h = subst (Goes B v k u) (some-same x w e) h
@@ -355,13 +355,13 @@ module _ (v : WholeUnit) (done : IsFinished v) where
   abbrev given-object : Given → TypedObject → TypedObject
   given-object f x = record x { t = f.t; braced = f.braced; inits = x.inits ++ f.stores }
 
-  given-goes : (k : Option ℕ) (o : ℕ) (u : UnitState) (f : After Given) → IsUnit v k u → HasEntity false o u.entities → (n : ℕ) × (f.value.t ≡ sized (object_at u.state.unit o).t n) → Moves U v [] u.state f.state
+  given-goes : (k : Option ℕ) (o : ℕ) (u : UnitState) (f : After Given) → IsUnit v k u → HasEntity false o u.entities → (n : ℕ) × (f.value.t ≡ with_size (object_at u.state.unit o).t n) → Moves U v [] u.state f.state
       → (Later f.state v → IsProper v (object_at u.state.unit o).t → IsProperState v u.state → IsProperState v f.state × GivenIn v true (object_at u.state.unit o).t u.state f × HasMade v u.state f.state)
       → Goes U v k u (record u { state = with_given o f.value f.state })
   given-goes k o u f i e size m h =
       let there = object-known k u i o e in
       let older : object_at f.state.unit o ≡ object_at u.state.unit o = m.older o there.0 in
-      let type : f.value.t ≡ sized (object_at f.state.unit o).t size.0 = size.1 ∙ ap (λ (x : TypedObject). sized x.t size.0) (sym older) in
+      let type : f.value.t ≡ with_size (object_at f.state.unit o).t size.0 = size.1 ∙ ap (λ (x : TypedObject). with_size x.t size.0) (sym older) in
       let first = state-goes U v k u f.state i m (λ b l p. let z = h l (proper-at u o p) p in (z.0, z.2)) in
       lead-goes U (IsProper v f.value.t × (Grown v f.state → AreConstantStores v f.value.t f.value.stores)) v k k u (record u { state = f.state }) (record u { state = with_given o f.value f.state }) first
       (λ b l s. let z = h l (proper-at u o s.proper) s.proper in (z.1.proper, λ g. z.1.constant g refl))
@@ -372,7 +372,7 @@ module _ (v : WholeUnit) (done : IsFinished v) where
       proper-at : (w : UnitState) (j : ℕ) → IsProperState v w.state → IsProper v (object_at w.state.unit j).t
       proper-at w j p = each-at (λ (y : TypedObject). IsProper v y.t) no_object w.state.unit.objects j tt p.unit.objects
 
-      constants : (t : State) → o < count u.state → count u.state ≤ count t → (object_at t.unit o).lasting ≡ true → f.value.t ≡ sized (object_at t.unit o).t size.0
+      constants : (t : State) → o < count u.state → count u.state ≤ count t → (object_at t.unit o).lasting ≡ true → f.value.t ≡ with_size (object_at t.unit o).t size.0
           → IsProper v f.value.t × (Grown v f.state → AreConstantStores v f.value.t f.value.stores) → UnitIs v (record u { state = t }) → Grown v t → Grown v f.state → AreConstantStores v f.value.t ((object_at t.unit o).inits ++ f.value.stores)
       constants t few more lasting type c z g k =
           each_append (λ (x : Store). (x.offset + (layout_in (layouts v) x.t).size ≤ (layout_in (layouts v) f.value.t).size) × IsConstant v x.t x.what) (object_at t.unit o).inits f.value.stores
@@ -380,16 +380,16 @@ module _ (v : WholeUnit) (done : IsFinished v) where
           ((z.objects g o (omega (arith, few, more))).constants lasting)) (c.1 k)
 
   -- what an object gets by its initializer is its type, with a size (6.7.9p22)
-  given-sized : (lasting : Bool) (t : Ty) (i : InitializerTree) (s : State) (f : After Given) → initialized lasting t i s ≡ Some f → (n : ℕ) × (f.value.t ≡ sized t n)
+  given-sized : (lasting : Bool) (t : Ty) (i : InitializerTree) (s : State) (f : After Given) → typed_initializer lasting t i s ≡ Some f → (n : ℕ) × (f.value.t ≡ with_size t n)
   unfolding values initialized_object
   given-sized lasting t i s f e = by (can_be_initialized (env s) t) e
     where
-      of : (o : Option (rules.After State Stores)) → lowered (option_map (given t (is_braced s.unit.completed (whole t) i)) o) ≡ Some f → (n : ℕ) × (f.value.t ≡ sized t n)
+      of : (o : Option (rules.After State Stores)) → to_expressions (option_map (given_to t (is_braced s.unit.completed (whole_object t) i)) o) ≡ Some f → (n : ℕ) × (f.value.t ≡ with_size t n)
       of None q = absurd cc
-      of (Some x) q = (x.value.count, sym (ap (λ (y : After Given). y.value.t) (some-same (record { value = record { t = sized t x.value.count; braced = is_braced s.unit.completed (whole t) i; stores = x.value.stores }; state = x.state }) f q)))
+      of (Some x) q = (x.value.count, sym (ap (λ (y : After Given). y.value.t) (some-same (record { value = record { t = with_size t x.value.count; braced = is_braced s.unit.completed (whole_object t) i; stores = x.value.stores }; state = x.state }) f q)))
 
-      by : (b : Bool) → lowered (if b then option_map (given t (is_braced s.unit.completed (whole t) i)) (init.initialized values lasting (whole t) i s) else None) ≡ Some f → (n : ℕ) × (f.value.t ≡ sized t n)
-      by true q = of (init.initialized values lasting (whole t) i s) q
+      by : (b : Bool) → to_expressions (if b then option_map (given_to t (is_braced s.unit.completed (whole_object t) i)) (init.initializer_stores values lasting (whole_object t) i s) else None) ≡ Some f → (n : ℕ) × (f.value.t ≡ with_size t n)
+      by true q = of (init.initializer_stores values lasting (whole_object t) i s) q
       by false q = absurd cc
 
   -- 6.9.2p1: with its initializer
@@ -397,14 +397,14 @@ module _ (v : WholeUnit) (done : IsFinished v) where
   initialized-goes k i a w c h e q = by (is_initialized false a.0 a.1.entities) q
     where
       by : (b : Bool)
-          → (if b then None else and_then (initialized true (object_at a.1.state.unit a.0).t i a.1.state) (λ f. Some (noted false a.0 true true false (record a.1 { state = with_given a.0 f.value f.state })))) ≡ Some w → Goes U v k a.1 w
+          → (if b then None else and_then (typed_initializer true (object_at a.1.state.unit a.0).t i a.1.state) (λ f. Some (after_declaration false a.0 true true false (record a.1 { state = with_given a.0 f.value f.state })))) ≡ Some w → Goes U v k a.1 w
       by true q = absurd cc
       by false q =
-          let f = from-some (initialized true (object_at a.1.state.unit a.0).t i a.1.state) (λ f. Some (noted false a.0 true true false (record a.1 { state = with_given a.0 f.value f.state }))) w q in
+          let f = from-some (typed_initializer true (object_at a.1.state.unit a.0).t i a.1.state) (λ f. Some (after_declaration false a.0 true true false (record a.1 { state = with_given a.0 f.value f.state }))) w q in
           let r = (initializer-gives v done true (object_at a.1.state.unit a.0).t i a.1.state c h.evaluated).held f.0 f.1 in
           let g = given-goes k a.0 a.1 f.0 h e (given-sized true (object_at a.1.state.unit a.0).t i a.1.state f.0 f.1) r.0 r.1 in
-          as-goes U k a.1 (noted false a.0 true true false (record a.1 { state = with_given a.0 f.0.value f.0.state })) w f.2
-          (then-goes U v k a.1 (record a.1 { state = with_given a.0 f.0.value f.0.state }) (noted false a.0 true true false (record a.1 { state = with_given a.0 f.0.value f.0.state })) g
+          as-goes U k a.1 (after_declaration false a.0 true true false (record a.1 { state = with_given a.0 f.0.value f.0.state })) w f.2
+          (then-goes U v k a.1 (record a.1 { state = with_given a.0 f.0.value f.0.state }) (after_declaration false a.0 true true false (record a.1 { state = with_given a.0 f.0.value f.0.state })) g
           (noted-goes U k (record a.1 { state = with_given a.0 f.0.value f.0.state }) false a.0 true true false g.unit (λ z. absurd cc)))
 
   -- ---- 6.7.8: typedef names
@@ -442,4 +442,4 @@ module _ (v : WholeUnit) (done : IsFinished v) where
       by false q =
           let g = flag-goes (IsProper v t) k u (u.unsized_typedef || unsized) i in
           then-goes (IsProper v t) v k u (record u { unsized_typedef = u.unsized_typedef || unsized }) w g
-          (typedef-again-goes k (find (innermost u.state.scopes).names n) n t (record u { unsized_typedef = u.unsized_typedef || unsized }) w g.unit q)
+          (typedef-again-goes k (find (innermost_scope u.state.scopes).names n) n t (record u { unsized_typedef = u.unsized_typedef || unsized }) w g.unit q)

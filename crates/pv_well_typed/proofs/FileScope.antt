@@ -13,9 +13,9 @@ use Rattle.pv_typed.specs.TypedUnits.{WholeUnit, TypedObject, TypedFunction, lay
 use Rattle.pv_typed.specs.UnitParts.{no_function}
 use Rattle.pv_typed.specs.TypedTree.{is_function}
 use Rattle.pv_check.specs.State.{State, Scope, Meaning, ObjectName, FunctionName, TypedefOf, ConstantOf}
-use Rattle.pv_check.specs.Scopes.{find, innermost}
-use Rattle.pv_check.specs.ScopeParts.{bound}
-use Rattle.pv_unit.specs.Redeclarations.{Entity, UnitState, unit_name, is_entity, is_initialized, marked}
+use Rattle.pv_check.specs.Scopes.{find, innermost_scope}
+use Rattle.pv_check.specs.ScopeParts.{with_meaning}
+use Rattle.pv_unit.specs.Redeclarations.{Entity, UnitState, unit_name, is_entity, is_initialized, entities_after}
 use Rattle.pv_guards.specs.Typed.{IsIn}
 use Rattle.pv_guards.specs.TypedStatements.{IsDefinition}
 use Rattle.pv_well_typed.specs.Later.{Later}
@@ -87,27 +87,27 @@ has-either f k (e ∷ es) fs (inr h) = by (has-either f k es fs h)
     by (inr g) = inr g
 
 -- 6.9.2p1, p2: what a declaration says more of one of them changes neither its kind nor its number
-pub marked-has : (g : Bool) (j : ℕ) (d i b : Bool) (f : Bool) (k : ℕ) (es : List Entity) → HasEntity f k (marked g j d i b es) → HasEntity f k es
+pub marked-has : (g : Bool) (j : ℕ) (d i b : Bool) (f : Bool) (k : ℕ) (es : List Entity) → HasEntity f k (entities_after g j d i b es) → HasEntity f k es
 marked-has g j d i b f k [] h = h
 marked-has g j d i b f k (e ∷ es) h = by (marked-has g j d i b f k es) (is_entity g j e) h
   where
-    by : (HasEntity f k (marked g j d i b es) → HasEntity f k es) → (c : Bool)
-        → HasEntity f k (if c then record e { defined = e.defined || d; initialized = e.initialized || i; unsized = e.unsized || b } ∷ es else e ∷ marked g j d i b es) → HasEntity f k (e ∷ es)
+    by : (HasEntity f k (entities_after g j d i b es) → HasEntity f k es) → (c : Bool)
+        → HasEntity f k (if c then record e { defined = e.defined || d; initialized = e.initialized || i; unsized = e.unsized || b } ∷ es else e ∷ entities_after g j d i b es) → HasEntity f k (e ∷ es)
     by rest true h = h
     by rest false (inl q) = inl q
     by rest false (inr h) = inr (rest h)
 
-pub has-marked : (g : Bool) (j : ℕ) (d i b : Bool) (f : Bool) (k : ℕ) (es : List Entity) → HasEntity f k es → HasEntity f k (marked g j d i b es)
+pub has-marked : (g : Bool) (j : ℕ) (d i b : Bool) (f : Bool) (k : ℕ) (es : List Entity) → HasEntity f k es → HasEntity f k (entities_after g j d i b es)
 has-marked g j d i b f k [] h = h
 has-marked g j d i b f k (e ∷ es) h = by (has-marked g j d i b f k es) (is_entity g j e) h
   where
-    by : (HasEntity f k es → HasEntity f k (marked g j d i b es)) → (c : Bool) → HasEntity f k (e ∷ es) → HasEntity f k (if c then record e { defined = e.defined || d; initialized = e.initialized || i; unsized = e.unsized || b } ∷ es else e ∷ marked g j d i b es)
+    by : (HasEntity f k es → HasEntity f k (entities_after g j d i b es)) → (c : Bool) → HasEntity f k (e ∷ es) → HasEntity f k (if c then record e { defined = e.defined || d; initialized = e.initialized || i; unsized = e.unsized || b } ∷ es else e ∷ entities_after g j d i b es)
     by rest true h = h
     by rest false (inl q) = inl q
     by rest false (inr h) = inr (rest h)
 
 -- 6.9p5: what has an initializer or a body has it still
-pub initialized-marked : (g : Bool) (j : ℕ) (d i b : Bool) (k : ℕ) (es : List Entity) → is_initialized true k (marked g j d i b es) ≡ false → is_initialized true k es ≡ false
+pub initialized-marked : (g : Bool) (j : ℕ) (d i b : Bool) (k : ℕ) (es : List Entity) → is_initialized true k (entities_after g j d i b es) ≡ false → is_initialized true k es ≡ false
 initialized-marked g j d i b k [] h = h
 initialized-marked g j d i b k (e ∷ es) h = by (initialized-marked g j d i b k es) (is_entity g j e) h
   where
@@ -119,13 +119,13 @@ initialized-marked g j d i b k (e ∷ es) h = by (initialized-marked g j d i b k
     same true q = either-false e.initialized i q
     same false q = q
 
-    other : (f : Bool) → (is_initialized true k (marked g j d i b es) ≡ false → is_initialized true k es ≡ false) → (if f then e.initialized else is_initialized true k (marked g j d i b es)) ≡ false
+    other : (f : Bool) → (is_initialized true k (entities_after g j d i b es) ≡ false → is_initialized true k es ≡ false) → (if f then e.initialized else is_initialized true k (entities_after g j d i b es)) ≡ false
         → (if f then e.initialized else is_initialized true k es) ≡ false
     other true rest q = q
     other false rest q = rest q
 
-    by : (is_initialized true k (marked g j d i b es) ≡ false → is_initialized true k es ≡ false) → (c : Bool)
-        → is_initialized true k (if c then record e { defined = e.defined || d; initialized = e.initialized || i; unsized = e.unsized || b } ∷ es else e ∷ marked g j d i b es) ≡ false
+    by : (is_initialized true k (entities_after g j d i b es) ≡ false → is_initialized true k es ≡ false) → (c : Bool)
+        → is_initialized true k (if c then record e { defined = e.defined || d; initialized = e.initialized || i; unsized = e.unsized || b } ∷ es else e ∷ entities_after g j d i b es) ≡ false
         → is_initialized true k (e ∷ es) ≡ false
     by rest true h = same (is_entity true k e) h
     by rest false h = other (is_entity true k e) rest h
@@ -162,7 +162,7 @@ found-set fs ns f y e h =
       apart = λ g j less fewer q. h.apart g j (omega (arith, less, few)) (omega (arith, fewer, few)) (sym (name-set fs f y g e) ∙ q ∙ name-set fs f y j e);
     }
 
-pub found-new : (fs : List TypedFunction) (ns : List (ℕ × Meaning)) (x : TypedFunction) (n : ℕ) (m : Meaning) → x.name ≡ unit_name n → find ns n ≡ None → AreFound fs ns → AreFound (fs ++ (x ∷ [])) (bound n m ns)
+pub found-new : (fs : List TypedFunction) (ns : List (ℕ × Meaning)) (x : TypedFunction) (n : ℕ) (m : Meaning) → x.name ≡ unit_name n → find ns n ≡ None → AreFound fs ns → AreFound (fs ++ (x ∷ [])) (with_meaning n m ns)
 found-new fs ns x n m named none h =
     let few = length-append fs (x ∷ []) in
     record { found = λ f lt. at f (either f (length fs)) lt few; apart = λ f g less fewer q. by f g (either f (length fs)) (either g (length fs)) less fewer few q }
@@ -179,7 +179,7 @@ found-new fs ns x n m named none h =
         (same, ap (λ (y : TypedFunction). y.name) (subst (λ j. get_or (fs ++ (x ∷ [])) j no_function ≡ x) same (last-at no_function fs x)) ∙ named)
 
     at : (f : ℕ) → (f < length fs) ⊎ (length fs ≤ f) → f < length (fs ++ (x ∷ [])) → length (fs ++ (x ∷ [])) ≡ length fs + 1
-        → (k : ℕ) × (((get_or (fs ++ (x ∷ [])) f no_function).name ≡ unit_name k) × (is_some (find (bound n m ns) k) ≡ true))
+        → (k : ℕ) × (((get_or (fs ++ (x ∷ [])) f no_function).name ≡ unit_name k) × (is_some (find (with_meaning n m ns) k) ≡ true))
     at f (inl lt) l few = let z = h.found f lt in (z.0, (before f lt ∙ z.1.0, find-bound n z.0 m ns z.1.1))
     at f (inr le) lt few = (n, ((last f le lt few).1, find-itself n m ns))
 
@@ -228,7 +228,7 @@ pub record IsUnit (v : WholeUnit) (k : Option ℕ) (u : UnitState) : Type 0 wher
   pub names : AreVisible (blank v) (declared-objects u.entities) u.state.scopes
   pub entities : Each (IsEntityOf k u.state.unit) u.entities
   pub functions : (f : ℕ) → f < length u.state.unit.functions → IsFunctionOf u.state.unit u.entities f
-  pub found : AreFound u.state.unit.functions (innermost u.state.scopes).names
+  pub found : AreFound u.state.unit.functions (innermost_scope u.state.scopes).names
 
 -- ---- what is so of it, told of the unit at its end
 
@@ -347,7 +347,7 @@ state-goes B v k u t i m h = record {
     names = m.names tt (blank v) (declared-objects u.entities) i.names;
     entities = each_weaker (IsEntityOf k u.state.unit) (IsEntityOf k t.unit) (λ (e : Entity) q. entity-kept k u.state t U v [] m e q) u.entities i.entities;
     functions = λ f lt. function-kept u.state.unit t.unit u.entities f m.functions m.spelled (i.functions f (subst (λ (fs : List TypedFunction). f < length fs) m.functions lt));
-    found = found-more u.state.unit.functions t.unit.functions (innermost u.state.scopes).names (innermost t.scopes).names m.functions m.outer.finds i.found;
+    found = found-more u.state.unit.functions t.unit.functions (innermost_scope u.state.scopes).names (innermost_scope t.scopes).names m.functions m.outer.finds i.found;
   };
   is = λ b l s.
       let z = h b l s.proper in

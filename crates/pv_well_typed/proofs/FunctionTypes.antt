@@ -8,12 +8,12 @@ use Rattle.pv_num.specs.declared.kinds.IntKind.TheVariants.{Char, Int, ULong}
 use Rattle.pv_library.specs.declared.library.Library.{Library}
 use Rattle.pv_library.specs.declared.library.Library.TheVariants as library
 use Rattle.pv_types.specs.Matching.{Matches, MatchAll}
-use Rattle.pv_types.specs.Compatible.{IntForm, FunctionForm, NoForms, same_kind, form_of, forms_of, with_const, is_constant, alike, all_alike, are_compatible}
+use Rattle.pv_types.specs.Compatible.{IntForm, FunctionForm, NoForms, same_kind, form_of, forms_of, with_const, is_constant, same_form, all_alike, are_compatible}
 use Rattle.pv_types.specs.Ty.{Ty, Tys, NoTys, MoreTys, VoidTy, IntTy, PointerTo, ArrayOf, StructTag, UnionTag, FunctionTy, ConstOf}
 use Rattle.pv_types.proofs.Matched.{matching, matching_result, matching_parameters}
 use Rattle.pv_typed.specs.Mains.{named_main}
 use Rattle.pv_typed.specs.TypedUnits.{WholeUnit}
-use Rattle.pv_check.specs.Composite.{composite, composites}
+use Rattle.pv_check.specs.Composite.{composite_of, composites}
 use Rattle.pv_library.specs.LibraryNames.{library_functions, function_among, library_named}
 use Rattle.pv_check.specs.PrintfFormats.{is_printf}
 use Rattle.pv_typed.specs.TypedTree.{is_function}
@@ -51,11 +51,11 @@ result-matches r ts c (StructTag n) m = tt
 result-matches r ts c (UnionTag n) m = tt
 result-matches r ts c (ConstOf t) m = tt
 
-flags-equal : (q p : _) (r s : Ty) (ts us : Tys) (c d : Bool) → alike (form_of q (FunctionTy r ts c)) (form_of p (FunctionTy s us d)) ≡ true → c ≡ d
+flags-equal : (q p : _) (r s : Ty) (ts us : Tys) (c d : Bool) → same_form (form_of q (FunctionTy r ts c)) (form_of p (FunctionTy s us d)) ≡ true → c ≡ d
 flags-equal q p r s ts us c d e = bits-equal c d (both-true (beq (is_constant q) (is_constant p)) (beq c d) (both-true (beq (is_constant q) (is_constant p) && beq c d) _ e).0).1
 
 -- what is compatible with a pointer, an integer type or `void`, and has no qualifier, is one
-pointer-like : (q p : _) (t u : Ty) → IsValueOrVoid t → alike (form_of q t) (form_of p (PointerTo u)) ≡ true → (s : Ty) × (t ≡ PointerTo s)
+pointer-like : (q p : _) (t u : Ty) → IsValueOrVoid t → same_form (form_of q t) (form_of p (PointerTo u)) ≡ true → (s : Ty) × (t ≡ PointerTo s)
 pointer-like q p (PointerTo s) u h e = (s, refl)
 pointer-like q p VoidTy u h e = absurd cc
 pointer-like q p (IntTy k) u h e = absurd cc
@@ -65,7 +65,7 @@ pointer-like q p (ArrayOf t n) u h e = absurd h
 pointer-like q p (FunctionTy t ts c) u h e = absurd h
 pointer-like q p (ConstOf t) u h e = absurd h
 
-integer-like : (q p : _) (t : Ty) (k : IntKind) → IsValueOrVoid t → alike (form_of q t) (form_of p (IntTy k)) ≡ true → t ≡ IntTy k
+integer-like : (q p : _) (t : Ty) (k : IntKind) → IsValueOrVoid t → same_form (form_of q t) (form_of p (IntTy k)) ≡ true → t ≡ IntTy k
 integer-like q p (IntTy j) k h e = ap IntTy (kinds-equal j k (both-true (beq (is_constant q) (is_constant p)) (same_kind j k) e).1)
 integer-like q p VoidTy k h e = absurd cc
 integer-like q p (PointerTo s) k h e = absurd cc
@@ -75,7 +75,7 @@ integer-like q p (ArrayOf t n) k h e = absurd h
 integer-like q p (FunctionTy t ts c) k h e = absurd h
 integer-like q p (ConstOf t) k h e = absurd h
 
-void-like : (q p : _) (t : Ty) → IsValueOrVoid t → alike (form_of q t) (form_of p VoidTy) ≡ true → t ≡ VoidTy
+void-like : (q p : _) (t : Ty) → IsValueOrVoid t → same_form (form_of q t) (form_of p VoidTy) ≡ true → t ≡ VoidTy
 void-like q p VoidTy h e = refl
 void-like q p (IntTy k) h e = absurd cc
 void-like q p (PointerTo s) h e = absurd cc
@@ -113,7 +113,7 @@ result-of library.Exit r p m = like-void r p m
 result-of library.Abort r p m = like-void r p m
 
 -- 6.2.7p3: a composite type of a result
-composite-integer : (k : IntKind) (u : Ty) → composite (IntTy k) u ≡ IntTy k
+composite-integer : (k : IntKind) (u : Ty) → composite_of (IntTy k) u ≡ IntTy k
 composite-integer k VoidTy = refl
 composite-integer k (IntTy l) = refl
 composite-integer k (PointerTo u) = refl
@@ -123,7 +123,7 @@ composite-integer k (UnionTag n) = refl
 composite-integer k (FunctionTy u us c) = refl
 composite-integer k (ConstOf u) = refl
 
-composite-void : (u : Ty) → composite VoidTy u ≡ VoidTy
+composite-void : (u : Ty) → composite_of VoidTy u ≡ VoidTy
 composite-void VoidTy = refl
 composite-void (IntTy l) = refl
 composite-void (PointerTo u) = refl
@@ -133,26 +133,26 @@ composite-void (UnionTag n) = refl
 composite-void (FunctionTy u us c) = refl
 composite-void (ConstOf u) = refl
 
-composite-pointer : (s u : Ty) → (z : Ty) × (composite (PointerTo s) u ≡ PointerTo z)
+composite-pointer : (s u : Ty) → (z : Ty) × (composite_of (PointerTo s) u ≡ PointerTo z)
 composite-pointer s VoidTy = (s, refl)
 composite-pointer s (IntTy l) = (s, refl)
-composite-pointer s (PointerTo u) = (composite s u, refl)
+composite-pointer s (PointerTo u) = (composite_of s u, refl)
 composite-pointer s (ArrayOf u n) = (s, refl)
 composite-pointer s (StructTag n) = (s, refl)
 composite-pointer s (UnionTag n) = (s, refl)
 composite-pointer s (FunctionTy u us c) = (s, refl)
 composite-pointer s (ConstOf u) = (s, refl)
 
-to-pointer : (r u : Ty) → (s : Ty) × (r ≡ PointerTo s) → (s : Ty) × (composite r u ≡ PointerTo s)
-to-pointer r u h = let z = composite-pointer h.0 u in (z.0, ap (λ t. composite t u) h.1 ∙ z.1)
+to-pointer : (r u : Ty) → (s : Ty) × (r ≡ PointerTo s) → (s : Ty) × (composite_of r u ≡ PointerTo s)
+to-pointer r u h = let z = composite-pointer h.0 u in (z.0, ap (λ t. composite_of t u) h.1 ∙ z.1)
 
-to-integer : (k : IntKind) (r u : Ty) → r ≡ IntTy k → composite r u ≡ IntTy k
-to-integer k r u h = ap (λ t. composite t u) h ∙ composite-integer k u
+to-integer : (k : IntKind) (r u : Ty) → r ≡ IntTy k → composite_of r u ≡ IntTy k
+to-integer k r u h = ap (λ t. composite_of t u) h ∙ composite-integer k u
 
-to-void : (r u : Ty) → r ≡ VoidTy → composite r u ≡ VoidTy
-to-void r u h = ap (λ t. composite t u) h ∙ composite-void u
+to-void : (r u : Ty) → r ≡ VoidTy → composite_of r u ≡ VoidTy
+to-void r u h = ap (λ t. composite_of t u) h ∙ composite-void u
 
-result-composite : (l : Library) (r u : Ty) → IsResultOf l r → IsResultOf l (composite r u)
+result-composite : (l : Library) (r u : Ty) → IsResultOf l r → IsResultOf l (composite_of r u)
 result-composite library.Malloc r u h = to-pointer r u h
 result-composite library.Calloc r u h = to-pointer r u h
 result-composite library.Realloc r u h = to-pointer r u h
@@ -185,7 +185,7 @@ unfolding library_named
 printf-named names n e = ap (λ a. function_among library_functions a) (same-text (get_or names n []) (112 ∷ 114 ∷ 105 ∷ 110 ∷ 116 ∷ 102 ∷ []) e)
 
 -- 5.1.2.2.1p1: the type of `main`
-constant-integer : (q : _) (r : Ty) (k : IntKind) → is_constant q ≡ true → with_const q ≡ q → alike (form_of q r) (IntForm false k) ≡ true → ⊥
+constant-integer : (q : _) (r : Ty) (k : IntKind) → is_constant q ≡ true → with_const q ≡ q → same_form (form_of q r) (IntForm false k) ≡ true → ⊥
 constant-integer q (IntTy j) k h c e =
     let b = (both-true (beq (is_constant q) false) (same_kind j k) e).0 in
     let both : true ≡ false = sym h ∙ bits-equal (is_constant q) false b in
@@ -196,9 +196,9 @@ constant-integer q (ArrayOf t m) k h c e = absurd cc
 constant-integer q (StructTag m) k h c e = absurd cc
 constant-integer q (UnionTag m) k h c e = absurd cc
 constant-integer q (FunctionTy t ts d) k h c e = absurd cc
-constant-integer q (ConstOf t) k h c e = constant-integer q t k h c (subst (λ x. alike (form_of x t) (IntForm false k) ≡ true) c e)
+constant-integer q (ConstOf t) k h c e = constant-integer q t k h c (subst (λ x. same_form (form_of x t) (IntForm false k) ≡ true) c e)
 
-plain-integer : (q : _) (r : Ty) (k : IntKind) → is_constant (with_const q) ≡ true → with_const (with_const q) ≡ with_const q → alike (form_of q r) (IntForm false k) ≡ true → r ≡ IntTy k
+plain-integer : (q : _) (r : Ty) (k : IntKind) → is_constant (with_const q) ≡ true → with_const (with_const q) ≡ with_const q → same_form (form_of q r) (IntForm false k) ≡ true → r ≡ IntTy k
 plain-integer q (IntTy j) k h c e = ap IntTy (kinds-equal j k (both-true (beq (is_constant q) false) (same_kind j k) e).1)
 plain-integer q VoidTy k h c e = absurd cc
 plain-integer q (PointerTo t) k h c e = absurd cc
@@ -213,10 +213,10 @@ main-parameters NoTys e = refl
 main-parameters (MoreTys t ts) e = absurd cc
 
 main-result : (q : _) (r : Ty) (ts : Tys) (c : Bool) → is_constant (with_const q) ≡ true → with_const (with_const q) ≡ with_const q
-    → alike (FunctionForm false (form_of q r) (forms_of ts) c) (FunctionForm false (IntForm false Int) NoForms false) ≡ true → FunctionTy r ts c ≡ FunctionTy (IntTy Int) NoTys false
+    → same_form (FunctionForm false (form_of q r) (forms_of ts) c) (FunctionForm false (IntForm false Int) NoForms false) ≡ true → FunctionTy r ts c ≡ FunctionTy (IntTy Int) NoTys false
 main-result q r ts c h k e =
-    let a = both-true (beq false false && beq c false) (all_alike (forms_of ts) NoForms && alike (form_of q r) (IntForm false Int)) e in
-    let b = both-true (all_alike (forms_of ts) NoForms) (alike (form_of q r) (IntForm false Int)) a.1 in
+    let a = both-true (beq false false && beq c false) (all_alike (forms_of ts) NoForms && same_form (form_of q r) (IntForm false Int)) e in
+    let b = both-true (all_alike (forms_of ts) NoForms) (same_form (form_of q r) (IntForm false Int)) a.1 in
     ap (λ x. FunctionTy x ts c) (plain-integer q r Int h k b.1) ∙ ap (λ x. FunctionTy (IntTy Int) x c) (main-parameters ts b.0)
     ∙ ap (FunctionTy (IntTy Int) NoTys) (bits-equal c false (both-true (beq false false) (beq c false) a.0).1)
 
@@ -231,7 +231,7 @@ main-is (StructTag n) f e = absurd cc
 main-is (UnionTag n) f e = absurd cc
 main-is (ConstOf t) f e = absurd cc
 
-pub composite-main : (u : Ty) → composite (FunctionTy (IntTy Int) NoTys false) u ≡ FunctionTy (IntTy Int) NoTys false
+pub composite-main : (u : Ty) → composite_of (FunctionTy (IntTy Int) NoTys false) u ≡ FunctionTy (IntTy Int) NoTys false
 composite-main (FunctionTy r us c) = ap (λ x. FunctionTy x (composites NoTys us) false) (composite-integer Int r) ∙ ap (λ x. FunctionTy (IntTy Int) x false) (none us)
   where
     none : (us : Tys) → composites NoTys us ≡ NoTys
@@ -245,7 +245,7 @@ composite-main (StructTag n) = refl
 composite-main (UnionTag n) = refl
 composite-main (ConstOf t) = refl
 
-pub composite-fixed : (t u : Ty) → IsFixed t → IsFixed (composite t u)
+pub composite-fixed : (t u : Ty) → IsFixed t → IsFixed (composite_of t u)
 composite-fixed (FunctionTy t ts c) (FunctionTy u us d) h = h
 composite-fixed (FunctionTy t ts c) VoidTy h = h
 composite-fixed (FunctionTy t ts c) (IntTy k) h = h
@@ -256,7 +256,7 @@ composite-fixed (FunctionTy t ts c) (UnionTag n) h = h
 composite-fixed (FunctionTy t ts c) (ConstOf u) h = h
 composite-fixed VoidTy u h = fixed-void u
   where
-    fixed-void : (u : Ty) → IsFixed (composite VoidTy u)
+    fixed-void : (u : Ty) → IsFixed (composite_of VoidTy u)
     fixed-void u = subst IsFixed (sym (composite-void u)) tt
 composite-fixed (IntTy k) u h = subst IsFixed (sym (composite-integer k u)) tt
 composite-fixed (PointerTo s) u h = let z = composite-pointer s u in subst IsFixed (sym z.1) tt
@@ -268,7 +268,7 @@ composite-fixed (ConstOf t) (ConstOf u) h = tt
 composite-fixed (ConstOf t) _ h = tt
 
 -- 6.2.7p4: a function type stays one of its function
-pub composite-function : (v : WholeUnit) (l : Option Library) (t u : Ty) → are_compatible t u ≡ true → is_function t ≡ true → is_function u ≡ true → HasFunctionType v l t → IsProper v u → HasFunctionType v l (composite t u)
+pub composite-function : (v : WholeUnit) (l : Option Library) (t u : Ty) → are_compatible t u ≡ true → is_function t ≡ true → is_function u ≡ true → HasFunctionType v l t → IsProper v u → HasFunctionType v l (composite_of t u)
 composite-function v None t u c f g h p = (proper-composite v t u (matching t u c) h.0 p, composite-fixed t u h.1)
 composite-function v (Some l) (FunctionTy r ts b) (FunctionTy s us d) c f g h p =
     (result-composite l r s h.0, composite-plain r s h.1, proper-composite v r s (matching_result r s ts us b d (matching (FunctionTy r ts b) (FunctionTy s us d) c)) h.2 p.1)
@@ -323,7 +323,7 @@ may-type v texts n (UnionTag m) f h p = absurd cc
 may-type v texts n (ConstOf t) f h p = absurd cc
 
 -- `...` stands in both of two compatible types, or in none
-pub fixed-back : (t u : Ty) → is_function t ≡ true → is_function u ≡ true → Matches t u → IsFixed u → IsFixed (composite t u)
+pub fixed-back : (t u : Ty) → is_function t ≡ true → is_function u ≡ true → Matches t u → IsFixed u → IsFixed (composite_of t u)
 fixed-back (FunctionTy t ts c) (FunctionTy u us d) f g m h = flags-equal m.left m.right t u ts us c d m.same ∙ h
 fixed-back (FunctionTy t ts c) VoidTy f g m h = absurd cc
 fixed-back (FunctionTy t ts c) (IntTy k) f g m h = absurd cc
@@ -341,7 +341,7 @@ fixed-back (UnionTag n) u f g m h = absurd cc
 fixed-back (ConstOf t) u f g m h = absurd cc
 
 -- a composite type of a function is one
-pub composite-shape : (t u : Ty) → is_function t ≡ true → is_function (composite t u) ≡ true
+pub composite-shape : (t u : Ty) → is_function t ≡ true → is_function (composite_of t u) ≡ true
 composite-shape (FunctionTy t ts c) (FunctionTy u us d) h = refl
 composite-shape (FunctionTy t ts c) VoidTy h = refl
 composite-shape (FunctionTy t ts c) (IntTy k) h = refl

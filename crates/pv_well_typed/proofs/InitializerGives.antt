@@ -3,7 +3,7 @@
 use Rattle.std.proofs.Common.{◌≡◌, ℕ, ◌<◌, ◌+◌, ◌*◌, ◌≤◌, ◌^◌, Bool, true, false, Option, Some, None, is_some, List, [], ◌∷◌, ◌++◌, length, nat_le, option_map, refl, sym, ap, subst, ◌∙◌, arith, ◌⊎◌, inl, inr, append-nil, nat_lt}
 use Rattle.std.proofs.lemmas.Bool.Decides.{nat_tests}
 use Rattle.std.specs.Prelude.{if◌then◌else◌, option_and_then}
-use Rattle.pv_types.specs.Sorts.{bare, is_scalar}
+use Rattle.pv_types.specs.Sorts.{bare_type, is_scalar}
 use Rattle.pv_tree.specs.Lines.{expression_line}
 use Rattle.pv_tree.specs.Syntax.{ExpressionTree, Text, InitializerTree, Initial, Braces, OfExpression, OfDeclaration, OfDeclarator, OfSpecifier, OfInitializer, OfStatement, Trees, NoTrees, Then}
 use Rattle.pv_types.specs.Layouts.{Entry, Layout, Part, Completed, up_to, layout_in, is_complete_in}
@@ -23,14 +23,14 @@ use Rattle.pv_check.specs.Rows.{operand}
 use Rattle.pv_check.specs.State.{State, Scope, Meaning, ObjectName, FunctionName, TypedefOf, ConstantOf, env}
 use Rattle.pv_check.specs.State as check
 use Rattle.pv_check.specs.Typing.{types}
-use Rattle.pv_check.specs.Values.{assigned}
+use Rattle.pv_check.specs.Values.{as_if_assigned}
 use Rattle.pv_unit.specs.Initializers as init
 use Rattle.pv_unit.specs.InitializerParts as parts
-use Rattle.pv_unit.specs.Initializers.{Stores, Shape, Fill, Single, Zero, Wrong, filling, single_shape, list_shape, only, shape_of, one, valued, single, has_room, filled_type, characters, filled_with, formed, joined, Given, each_initialized, initialized_object, given, whole}
-use Rattle.pv_unit.specs.InitializerParts.{or_shape, expression_shape, begins_deep, allowed, as_constant, zero_leaf, is_braced}
-use Rattle.pv_unit.specs.Parts.{part_at, is_text, text_layer, sized, can_be_initialized}
+use Rattle.pv_unit.specs.Initializers.{Stores, Shape, Fill, Single, Zero, Wrong, filling, single_shape, list_shape, only_expression, shape_of, one, store_of_value, single_store, has_room, filled_type, characters, filled_with, stores_of_shape, then_part, Given, each_initialized, initialized_object, given_to, whole_object}
+use Rattle.pv_unit.specs.InitializerParts.{or_shape, expression_shape, begins_deep, is_allowed, as_constant, zero_leaf, is_braced}
+use Rattle.pv_unit.specs.Parts.{part_at, is_text, text_layer, with_size, can_be_initialized}
 use Rattle.pv_unit.specs.Rules.{After}
-use Rattle.pv_unit.specs.ValueRules.{lifted, lowered, filling_text, values, initialized}
+use Rattle.pv_unit.specs.ValueRules.{to_initializers, to_expressions, filling_text, values, typed_initializer}
 use Rattle.pv_guards.proofs.Numbers.{both}
 use Rattle.pv_guards.specs.Typed.{IsIn, IsValueType}
 use Rattle.pv_guards.specs.TypedStatements.{IsInitializer, IsConstant, IsConstantOf}
@@ -65,22 +65,22 @@ abbrev high : {A : Type 0} → check.After A → After State A
 high x = record { value = x.value; state = x.state }
 
 module _ (v : WholeUnit) where
-  then-gives : {A B : Type 0} (P : Type 0) (s : State) (Q : check.After A → Type 0) (R : check.After B → Type 0) (o : Option (After State A)) (f : After State A → Option (After State B)) → Gives U v [] P s Q (lowered o)
-      → ((a : After State A) → Moves U v [] s a.state → Gives U v [] (P × Q (low a)) a.state R (lowered (f a))) → Gives U v [] P s R (lowered (option_and_then f o))
+  then-gives : {A B : Type 0} (P : Type 0) (s : State) (Q : check.After A → Type 0) (R : check.After B → Type 0) (o : Option (After State A)) (f : After State A → Option (After State B)) → Gives U v [] P s Q (to_expressions o)
+      → ((a : After State A) → Moves U v [] s a.state → Gives U v [] (P × Q (low a)) a.state R (to_expressions (f a))) → Gives U v [] P s R (to_expressions (option_and_then f o))
   then-gives P s Q R None f h k = gives-none U v [] P s R
-  then-gives P s Q R (Some x) f h k = gives-then U v [] P s Q R (Some (low x)) (λ b. lowered (f (high b))) h (λ b m. k (high b) m)
+  then-gives P s Q R (Some x) f h k = gives-then U v [] P s Q R (Some (low x)) (λ b. to_expressions (f (high b))) h (λ b m. k (high b) m)
 
-  value-gives : {A B : Type 0} (P : Type 0) (s : State) (R : check.After B → Type 0) (o : Option A) (f : A → Option (After State B)) → ((x : A) → o ≡ Some x → Gives U v [] P s R (lowered (f x)))
-      → Gives U v [] P s R (lowered (option_and_then f o))
+  value-gives : {A B : Type 0} (P : Type 0) (s : State) (R : check.After B → Type 0) (o : Option A) (f : A → Option (After State B)) → ((x : A) → o ≡ Some x → Gives U v [] P s R (to_expressions (f x)))
+      → Gives U v [] P s R (to_expressions (option_and_then f o))
   value-gives P s R None f h = gives-none U v [] P s R
   value-gives P s R (Some x) f h = h x refl
 
-  map-gives : {A B : Type 0} (P : Type 0) (s : State) (Q : check.After A → Type 0) (R : check.After B → Type 0) (o : Option (After State A)) (g : After State A → After State B) → Gives U v [] P s Q (lowered o)
-      → ((a : After State A) → Moves U v [] s a.state → Gives U v [] (P × Q (low a)) a.state R (Some (low (g a)))) → Gives U v [] P s R (lowered (option_map g o))
+  map-gives : {A B : Type 0} (P : Type 0) (s : State) (Q : check.After A → Type 0) (R : check.After B → Type 0) (o : Option (After State A)) (g : After State A → After State B) → Gives U v [] P s Q (to_expressions o)
+      → ((a : After State A) → Moves U v [] s a.state → Gives U v [] (P × Q (low a)) a.state R (Some (low (g a)))) → Gives U v [] P s R (to_expressions (option_map g o))
   map-gives P s Q R None g h k = gives-none U v [] P s R
   map-gives P s Q R (Some x) g h k = gives-then U v [] P s Q R (Some (low x)) (λ b. Some (low (g (high b)))) h (λ b m. k (high b) m)
 
-  lifted-gives : {A : Type 0} (P : Type 0) (s : State) (Q : check.After A → Type 0) (o : Option (check.After A)) → Gives U v [] P s Q o → Gives U v [] P s Q (lowered (lifted o))
+  lifted-gives : {A : Type 0} (P : Type 0) (s : State) (Q : check.After A → Type 0) (o : Option (check.After A)) → Gives U v [] P s Q o → Gives U v [] P s Q (to_expressions (to_initializers o))
   lifted-gives P s Q None h = h
   lifted-gives P s Q (Some x) h = h
 
@@ -173,7 +173,7 @@ module _ (v : WholeUnit) (done : IsFinished v) where
 
   -- the end of the part, where so many of its parts have initializers (6.7.9p22)
   abbrev End : Part → ℕ → ℕ
-  End p n = p.offset + size (sized (bare p.t) n)
+  End p n = p.offset + size (with_size (bare_type p.t) n)
 
   abbrev AreBelow : (end : ℕ) → (Ty → StoredValue → Type 0) → List Store → Type 0
   AreBelow end R xs = Each (λ (x : Store). (x.offset + size x.t ≤ end) × R x.t x.what) xs
@@ -182,7 +182,7 @@ module _ (v : WholeUnit) (done : IsFinished v) where
   below-more m n R xs le h = each_weaker (λ (x : Store). (x.offset + size x.t ≤ m) × R x.t x.what) (λ (x : Store). (x.offset + size x.t ≤ n) × R x.t x.what) (λ (x : Store) q. (let z = q.0 in omega (arith, z, le), q.1)) xs h
 
   pub record StoredIn (lasting : Bool) (p : Part) (s : State) (f : check.After Stores) : Type 0 where
-    pub whole : IsProper v (sized (bare p.t) f.value.count)
+    pub whole : IsProper v (with_size (bare_type p.t) f.value.count)
     pub stored : (os : List ℕ) → Here v os s → AreBelow (End p f.value.count) (λ t x. IsInitializer v os t x) f.value.stores × Here v os f.state
     pub constant : Grown v f.state → lasting ≡ true → AreBelow (End p f.value.count) (λ t x. IsConstant v t x) f.value.stores
 
@@ -196,7 +196,7 @@ module _ (v : WholeUnit) (done : IsFinished v) where
 
   -- ---- one expression (6.7.9p11, p13)
 
-  value-sized : (t : Ty) (n : ℕ) → IsValueType (bare t) → sized t n ≡ t
+  value-sized : (t : Ty) (n : ℕ) → IsValueType (bare_type t) → with_size t n ≡ t
   value-sized VoidTy n h = refl
   value-sized (IntTy k) n h = refl
   value-sized (PointerTo t) n h = refl
@@ -208,12 +208,12 @@ module _ (v : WholeUnit) (done : IsFinished v) where
 
   -- the value that is stored
   abbrev IsAssignedTo : Part → List ℕ → TypedTree → Type 0
-  IsAssignedTo p os e = IsAssigned U v os (bare p.t) e
+  IsAssignedTo p os e = IsAssigned U v os (bare_type p.t) e
 
   assigned-initializer : (os : List ℕ) (t : Ty) (e : TypedTree) → IsAssigned U v os t e → IsInitializer v os t (ValueOf e)
-  assigned-initializer os t e h = (h.converted.typed tt, has-type U v os (bare t) e h.converted, h.value)
+  assigned-initializer os t e h = (h.converted.typed tt, has-type U v os (bare_type t) e h.converted, h.value)
 
-  allowed-constant : (s : State) (e : TypedTree) (lasting : Bool) → allowed values lasting s e ≡ true → lasting ≡ true → (c : Const) × (constant_of s.unit e ≡ Some c)
+  allowed-constant : (s : State) (e : TypedTree) (lasting : Bool) → is_allowed values lasting s e ≡ true → lasting ≡ true → (c : Const) × (constant_of s.unit e ≡ Some c)
   unfolding values
   allowed-constant s e true h q = some-there (constant_of s.unit e) h
     where
@@ -225,46 +225,46 @@ module _ (v : WholeUnit) (done : IsFinished v) where
   assigned-constant : (s z : State) (os : List ℕ) (t : Ty) (e : TypedTree) (c : Const) → Later z v → Grown v z → IsAssigned U v os t e → constant_of z.unit e ≡ Some c → IsConstant v t (ValueOf e)
   assigned-constant s z os t e c l g h q =
       let kept = constant_kept z.unit v (later-completes v z l g) e c q in
-      let is : type_of e ≡ bare t = h.converted.is in
+      let is : type_of e ≡ bare_type t = h.converted.is in
       let good = constant-good v os done e c (subst IsValueType (sym h.converted.is) h.value) (h.converted.typed tt) kept in
       (c, kept, good.0, subst (λ u. IsConstantOf c u) is good.1)
 
-  constant-gives : (lasting : Bool) (p : Part) (a : ExpressionTree) (s : State) (x : After State TypedTree) (e : TypedTree) → s.unevaluated ≡ false → assigned (bare p.t) x.value ≡ Some e
-      → Gives U v [] (IsProper v p.t × Behind v s (λ os y. IsOperand U v os y) (low x)) x.state (OneIn lasting p s) (lowered (as_constant values lasting (parts.unqualified p) (expression_line a) x.state e))
-  constant-gives lasting p a s x e ev q = by (allowed values lasting x.state e) refl
+  constant-gives : (lasting : Bool) (p : Part) (a : ExpressionTree) (s : State) (x : After State TypedTree) (e : TypedTree) → s.unevaluated ≡ false → as_if_assigned (bare_type p.t) x.value ≡ Some e
+      → Gives U v [] (IsProper v p.t × Behind v s (λ os y. IsOperand U v os y) (low x)) x.state (OneIn lasting p s) (to_expressions (as_constant values lasting (parts.unqualified_part p) (expression_line a) x.state e))
+  constant-gives lasting p a s x e ev q = by (is_allowed values lasting x.state e) refl
     where
-      by : (b : Bool) → allowed values lasting x.state e ≡ b
-          → Gives U v [] (IsProper v p.t × Behind v s (λ os y. IsOperand U v os y) (low x)) x.state (OneIn lasting p s) (lowered (if b then Some (one (parts.unqualified p) (expression_line a) (ValueOf e) x.state) else None))
+      by : (b : Bool) → is_allowed values lasting x.state e ≡ b
+          → Gives U v [] (IsProper v p.t × Behind v s (λ os y. IsOperand U v os y) (low x)) x.state (OneIn lasting p s) (to_expressions (if b then Some (one (parts.unqualified_part p) (expression_line a) (ValueOf e) x.state) else None))
       by false f = gives-none U v [] _ x.state (OneIn lasting p s)
       by true f =
-          gives-some U v [] (IsProper v p.t × Behind v s (λ os y. IsOperand U v os y) (low x)) x.state (OneIn lasting p s) (low (one (parts.unqualified p) (expression_line a) (ValueOf e) x.state)) (same-moves U v [] x.state)
+          gives-some U v [] (IsProper v p.t × Behind v s (λ os y. IsOperand U v os y) (low x)) x.state (OneIn lasting p s) (low (one (parts.unqualified_part p) (expression_line a) (ValueOf e) x.state)) (same-moves U v [] x.state)
           (λ l h g.
-          let w : (os : List ℕ) → Here v os s → IsAssigned U v os (bare p.t) e = λ os here. assigned-row U v os (bare p.t) x.value (h.1 os here).0 e q in
+          let w : (os : List ℕ) → Here v os s → IsAssigned U v os (bare_type p.t) e = λ os here. assigned-row U v os (bare_type p.t) x.value (h.1 os here).0 e q in
           let z = some-here v s ev in
           let first = w (objects-in s.scopes) z in
-          let same : sized (bare p.t) 1 ≡ bare p.t = value-sized (bare p.t) 1 first.value in
-          let end : size (sized (bare p.t) 1) ≡ size (bare p.t) = ap size same in (
+          let same : with_size (bare_type p.t) 1 ≡ bare_type p.t = value-sized (bare_type p.t) 1 first.value in
+          let end : size (with_size (bare_type p.t) 1) ≡ size (bare_type p.t) = ap size same in (
             g,
             (
               record {
                 whole = subst (IsProper v) (sym same) (proper-bare v p.t h.0);
-                stored = λ os here. (((omega (arith, end), assigned-initializer os (bare p.t) e (w os here)), tt), (h.1 os here).1);
+                stored = λ os here. (((omega (arith, end), assigned-initializer os (bare_type p.t) e (w os here)), tt), (h.1 os here).1);
                 constant = λ k r.
                     let c = allowed-constant x.state e lasting f r in
-                    ((omega (arith, end), assigned-constant s x.state (objects-in s.scopes) (bare p.t) e c.0 l k first c.1), tt);
+                    ((omega (arith, end), assigned-constant s x.state (objects-in s.scopes) (bare_type p.t) e c.0 l k first c.1), tt);
               },
               refl,
             ),
             none-made v x.state x.state refl,
           ))
 
-  single-gives : (lasting : Bool) (p : Part) (a : ExpressionTree) (s : State) → HasCharacters a → s.unevaluated ≡ false → Gives U v [] (IsProper v p.t) s (OneIn lasting p s) (lowered (single values lasting p a s))
+  single-gives : (lasting : Bool) (p : Part) (a : ExpressionTree) (s : State) → HasCharacters a → s.unevaluated ≡ false → Gives U v [] (IsProper v p.t) s (OneIn lasting p s) (to_expressions (single_store values lasting p a s))
   unfolding values
   single-gives lasting p a s c ev =
-      then-gives v (IsProper v p.t) s (Behind v s (λ os y. IsOperand U v os y)) (OneIn lasting p s) (lifted (operand (types a s))) (valued values lasting p (expression_line a))
+      then-gives v (IsProper v p.t) s (Behind v s (λ os y. IsOperand U v os y)) (OneIn lasting p s) (to_initializers (operand (types a s))) (store_of_value values lasting p (expression_line a))
       (lifted-gives v (IsProper v p.t) s (Behind v s (λ os y. IsOperand U v os y)) (operand (types a s))
       (gives-weaker U U U (IsProper v p.t) v [] s (Behind v s (λ os y. IsOperand U v os y)) (Behind v s (λ os y. IsOperand U v os y)) (operand (types a s)) (λ f. f) (λ h. tt) (λ y q. q) (valued-everywhere v done a c s)))
-      (λ x m. value-gives v (IsProper v p.t × Behind v s (λ os y. IsOperand U v os y) (low x)) x.state (OneIn lasting p s) (assigned (bare p.t) x.value) (as_constant values lasting (parts.unqualified p) (expression_line a) x.state)
+      (λ x m. value-gives v (IsProper v p.t × Behind v s (λ os y. IsOperand U v os y) (low x)) x.state (OneIn lasting p s) (as_if_assigned (bare_type p.t) x.value) (as_constant values lasting (parts.unqualified_part p) (expression_line a) x.state)
       (λ e q. constant-gives lasting p a s x e ev q))
 
   -- ---- string literals that fill an array (6.7.9p14)
@@ -288,7 +288,7 @@ module _ (v : WholeUnit) (done : IsFinished v) where
   text-proper line bytes s h = record { unit = record { objects = h.unit.objects; functions = h.unit.functions; completed = h.unit.completed }; some = h.some; scopes = h.scopes }
 
   -- 6.7.9p22: as many elements as characters
-  filled-proper : (es : List Entry) (t : Ty) (n : ℕ) → IsProper v t → text_layer t ≡ true → has_room t n ≡ true → IsProper v (sized t n)
+  filled-proper : (es : List Entry) (t : Ty) (n : ℕ) → IsProper v t → text_layer t ≡ true → has_room t n ≡ true → IsProper v (with_size t n)
   filled-proper es (ArrayOf t None) n q text room =
       let one = character-byte (layouts v) t text in
       (q.0, q.1, subst (λ k. n * k ≤ 2 ^ 32) (sym one) (small room))
@@ -304,18 +304,18 @@ module _ (v : WholeUnit) (done : IsFinished v) where
   filled-proper es (FunctionTy t ts c) n q text room = absurd cc
   filled-proper es (ConstOf t) n q text room = absurd cc
 
-  fill-gives : (lasting : Bool) (p : Part) (line : ℕ) (bytes : List ℕ) (s : State) → is_text p.t ≡ true → (Orderly s → IsText bytes) → Gives U v [] (IsProper v p.t) s (StoredIn lasting p s) (lowered (filled_with p line (filling_text line bytes s)))
-  fill-gives lasting p line bytes s text good = by (has_room (bare p.t) (length bytes)) refl
+  fill-gives : (lasting : Bool) (p : Part) (line : ℕ) (bytes : List ℕ) (s : State) → is_text p.t ≡ true → (Orderly s → IsText bytes) → Gives U v [] (IsProper v p.t) s (StoredIn lasting p s) (to_expressions (filled_with p line (filling_text line bytes s)))
+  fill-gives lasting p line bytes s text good = by (has_room (bare_type p.t) (length bytes)) refl
     where
-      by : (b : Bool) → has_room (bare p.t) (length bytes) ≡ b
-          → Gives U v [] (IsProper v p.t) s (StoredIn lasting p s) (lowered (option_map (characters p line (filling_text line bytes s)) (if b then Some (sized (bare p.t) (length bytes)) else None)))
+      by : (b : Bool) → has_room (bare_type p.t) (length bytes) ≡ b
+          → Gives U v [] (IsProper v p.t) s (StoredIn lasting p s) (to_expressions (option_map (characters p line (filling_text line bytes s)) (if b then Some (with_size (bare_type p.t) (length bytes)) else None)))
       by false f = gives-none U v [] (IsProper v p.t) s (StoredIn lasting p s)
       by true f =
-          gives-some U v [] (IsProper v p.t) s (StoredIn lasting p s) (low (characters p line (filling_text line bytes s) (sized (bare p.t) (length bytes)))) (text-moves line bytes s good)
+          gives-some U v [] (IsProper v p.t) s (StoredIn lasting p s) (low (characters p line (filling_text line bytes s) (with_size (bare_type p.t) (length bytes)))) (text-moves line bytes s good)
           (λ l h g. (
             text-proper line bytes s g,
             record {
-              whole = filled-proper (env s) (bare p.t) (length bytes) (proper-bare v p.t h) text f;
+              whole = filled-proper (env s) (bare_type p.t) (length bytes) (proper-bare v p.t h) text f;
               stored = λ os here. (((omega arith, tt), tt), record { evaluated = here.evaluated; visible = here.visible });
               constant = λ k r. ((omega arith, tt), tt);
             },
@@ -349,7 +349,7 @@ module _ (v : WholeUnit) (done : IsFinished v) where
 
   for-shape : (p : Part) (ds : List Completed) (i : InitializerTree) → IsFor p (shape_of ds p i)
   for-shape p ds (Initial line a) = for-filling p (is_text p.t) a (Single a) refl tt
-  for-shape p ds (Braces line inits comma) = for-list p ds (only inits)
+  for-shape p ds (Braces line inits comma) = for-list p ds (only_expression inits)
 
   -- 6.4.4.4p10: the character constants of a shape are those of its initializer
   abbrev ShapeCharacters : Shape → Type 0
@@ -375,7 +375,7 @@ module _ (v : WholeUnit) (done : IsFinished v) where
       by true = tt
       by false = tt
 
-  only-characters : (ts : Trees) → TreesCharacters ts → (a : ExpressionTree) → only ts ≡ Some a → HasCharacters a
+  only-characters : (ts : Trees) → TreesCharacters ts → (a : ExpressionTree) → only_expression ts ≡ Some a → HasCharacters a
   only-characters (Then NoTrees (OfInitializer (Initial line b))) c a e = subst HasCharacters (some-same b a e) c.1
   only-characters NoTrees c a e = absurd cc
   only-characters (Then NoTrees (OfInitializer (Braces line inits comma))) c a e = absurd cc
@@ -393,13 +393,13 @@ module _ (v : WholeUnit) (done : IsFinished v) where
 
   shape-characters : (p : Part) (ds : List Completed) (i : InitializerTree) → InitializerCharacters i → ShapeCharacters (shape_of ds p i)
   shape-characters p ds (Initial line a) c = filling-characters (is_text p.t) a (Single a) c
-  shape-characters p ds (Braces line inits comma) c = list-characters p ds (only inits) (λ a e. only-characters inits c a e)
+  shape-characters p ds (Braces line inits comma) c = list-characters p ds (only_expression inits) (λ a e. only-characters inits c a e)
 
   -- ---- what is stored by a shape
 
-  stored-as : (lasting : Bool) (p q : Part) (s : State) (f : check.After Stores) → f.value.count ≡ 1 → size (sized (bare q.t) 1) + q.offset ≤ size (sized (bare p.t) 1) + p.offset → IsProper v (sized (bare p.t) 1) → StoredIn lasting q s f → StoredIn lasting p s f
+  stored-as : (lasting : Bool) (p q : Part) (s : State) (f : check.After Stores) → f.value.count ≡ 1 → size (with_size (bare_type q.t) 1) + q.offset ≤ size (with_size (bare_type p.t) 1) + p.offset → IsProper v (with_size (bare_type p.t) 1) → StoredIn lasting q s f → StoredIn lasting p s f
   stored-as lasting p q s f one le proper h = record {
-    whole = subst (λ n. IsProper v (sized (bare p.t) n)) (sym one) proper;
+    whole = subst (λ n. IsProper v (with_size (bare_type p.t) n)) (sym one) proper;
     stored = λ os here. let z = h.stored os here in (below-more (End q f.value.count) (End p f.value.count) (λ t x. IsInitializer v os t x) f.value.stores ends z.0, z.1);
     constant = λ k e. below-more (End q f.value.count) (End p f.value.count) (λ t x. IsConstant v t x) f.value.stores ends (h.constant k e);
   }
@@ -408,7 +408,7 @@ module _ (v : WholeUnit) (done : IsFinished v) where
       ends = subst (λ n. End q n ≤ End p n) (sym one) (omega (arith, le))
 
   -- a part ends before the whole does
-  can-sized : (es : List Entry) (t : Ty) (n : ℕ) → can_be_initialized es t ≡ true → is_complete_in es (sized t (n + 1)) ≡ true
+  can-sized : (es : List Entry) (t : Ty) (n : ℕ) → can_be_initialized es t ≡ true → is_complete_in es (with_size t (n + 1)) ≡ true
   can-sized es (ArrayOf t None) n h = both (nat_lt 0 (n + 1)) (is_complete_in es t) (grind (arith, nat_tests)) h
   can-sized es (ArrayOf t (Some m)) n h = h
   can-sized es VoidTy n h = absurd cc
@@ -419,22 +419,22 @@ module _ (v : WholeUnit) (done : IsFinished v) where
   can-sized es (FunctionTy t ts c) n h = absurd cc
   can-sized es (ConstOf t) n h = h
 
-  part-ends : (s : State) → Later s v → (p : Part) → MayFill p s → (n : ℕ) (q : Part) → IsPart v (env s) (p.offset + (layout_in (env s) (sized (bare p.t) (n + 1))).size) (sized (bare p.t) (n + 1)) q → (k : ℕ) → End q k ≤ End p (n + 1)
+  part-ends : (s : State) → Later s v → (p : Part) → MayFill p s → (n : ℕ) (q : Part) → IsPart v (env s) (p.offset + (layout_in (env s) (with_size (bare_type p.t) (n + 1))).size) (with_size (bare_type p.t) (n + 1)) q → (k : ℕ) → End q k ≤ End p (n + 1)
   part-ends s l p may n q h k =
-      let whole = can-sized (env s) (bare p.t) n (can-bare v (env s) p.t may.0 may.1) in
-      let outer : size (sized (bare p.t) (n + 1)) ≡ (layout_in (env s) (sized (bare p.t) (n + 1))).size = ap (λ (x : Layout). x.size) (layout-later (env s) v l.unit.layouts (sized (bare p.t) (n + 1)) whole) in
-      let inner : size (sized (bare q.t) k) ≡ (layout_in (env s) q.t).size =
+      let whole = can-sized (env s) (bare_type p.t) n (can-bare v (env s) p.t may.0 may.1) in
+      let outer : size (with_size (bare_type p.t) (n + 1)) ≡ (layout_in (env s) (with_size (bare_type p.t) (n + 1))).size = ap (λ (x : Layout). x.size) (layout-later (env s) v l.unit.layouts (with_size (bare_type p.t) (n + 1)) whole) in
+      let inner : size (with_size (bare_type q.t) k) ≡ (layout_in (env s) q.t).size =
       sized-size (layouts v) q.t k (complete-later (env s) v l.unit.layouts q.t h.found.complete) ∙ ap (λ (x : Layout). x.size) (layout-later (env s) v l.unit.layouts q.t h.found.complete) in
       let w = h.found.within in
       omega (arith, outer, inner, w)
 
   -- 6.7.9p20, p21: the list `{0}`
-  zero-gives : (lasting : Bool) (p : Part) (a : ExpressionTree) (s : State) → HasCharacters a → s.unevaluated ≡ false → Gives U v [] (MayFill p s) s (StoredIn lasting p s) (lowered (parts.zero values lasting p a s))
+  zero-gives : (lasting : Bool) (p : Part) (a : ExpressionTree) (s : State) → HasCharacters a → s.unevaluated ≡ false → Gives U v [] (MayFill p s) s (StoredIn lasting p s) (to_expressions (parts.zero values lasting p a s))
   unfolding values
   zero-gives lasting p a s c ev =
-      value-gives v (MayFill p s) s (StoredIn lasting p s) (zero_leaf s.unit.completed p) (λ leaf. single values lasting leaf a s) (λ leaf e. record { held = λ f q. next leaf e f q })
+      value-gives v (MayFill p s) s (StoredIn lasting p s) (zero_leaf s.unit.completed p) (λ leaf. single_store values lasting leaf a s) (λ leaf e. record { held = λ f q. next leaf e f q })
     where
-      next : (leaf : Part) → zero_leaf s.unit.completed p ≡ Some leaf → (f : check.After Stores) → lowered (single values lasting leaf a s) ≡ Some f
+      next : (leaf : Part) → zero_leaf s.unit.completed p ≡ Some leaf → (f : check.After Stores) → to_expressions (single_store values lasting leaf a s) ≡ Some f
           → Moves U v [] s f.state × (Later f.state v → MayFill p s → IsProperState v s → IsProperState v f.state × StoredIn lasting p s f × HasMade v s f.state)
       next leaf e f q =
           let z = (single-gives lasting leaf a s c ev).held f q in (
@@ -447,21 +447,21 @@ module _ (v : WholeUnit) (done : IsFinished v) where
                 (w.0, stored-as lasting p leaf s f w.1.1 (omega (arith, ends)) found.whole w.1.0, w.2),
           )
 
-  formed-gives : (lasting : Bool) (p : Part) (s : State) (each : Option (After State Stores)) → Gives U v [] (MayFill p s) s (StoredIn lasting p s) (lowered each) → (x : Shape) → IsFor p x → ShapeCharacters x → s.unevaluated ≡ false
-      → Gives U v [] (MayFill p s) s (StoredIn lasting p s) (lowered (formed values lasting p s each x))
+  formed-gives : (lasting : Bool) (p : Part) (s : State) (each : Option (After State Stores)) → Gives U v [] (MayFill p s) s (StoredIn lasting p s) (to_expressions each) → (x : Shape) → IsFor p x → ShapeCharacters x → s.unevaluated ≡ false
+      → Gives U v [] (MayFill p s) s (StoredIn lasting p s) (to_expressions (stores_of_shape values lasting p s each x))
   unfolding values
   formed-gives lasting p s each h (Fill line first more) f c ev =
-      gives-weaker U U (IsProper v p.t) (MayFill p s) v [] s (StoredIn lasting p s) (StoredIn lasting p s) (lowered (filled_with p line (filling_text line (bytes_of_text s.texts first more) s))) (λ i. i) (λ q. q.0) (λ a q. q)
+      gives-weaker U U (IsProper v p.t) (MayFill p s) v [] s (StoredIn lasting p s) (StoredIn lasting p s) (to_expressions (filled_with p line (filling_text line (bytes_of_text s.texts first more) s))) (λ i. i) (λ q. q.0) (λ a q. q)
       (fill-gives lasting p line (bytes_of_text s.texts first more) s f (λ h. text-bytes s.texts first more h.sources))
   formed-gives lasting p s each h (Single a) f c ev =
-      gives-weaker U U (IsProper v p.t) (MayFill p s) v [] s (OneIn lasting p s) (StoredIn lasting p s) (lowered (single values lasting p a s)) (λ i. i) (λ q. q.0) (λ a q. q.0) (single-gives lasting p a s c ev)
+      gives-weaker U U (IsProper v p.t) (MayFill p s) v [] s (OneIn lasting p s) (StoredIn lasting p s) (to_expressions (single_store values lasting p a s)) (λ i. i) (λ q. q.0) (λ a q. q.0) (single-gives lasting p a s c ev)
   formed-gives lasting p s each h (Zero a) f c ev = zero-gives lasting p a s c ev
   formed-gives lasting p s each h init.Each f c ev = h
   formed-gives lasting p s each h Wrong f c ev = gives-none U v [] (MayFill p s) s (StoredIn lasting p s)
 
   -- ---- lists in braces (6.7.9p16 to p19)
 
-  proper-none : (t : Ty) → IsProper v t → IsProper v (sized t 0)
+  proper-none : (t : Ty) → IsProper v t → IsProper v (with_size t 0)
   proper-none (ArrayOf t None) h = (h.0, h.1, omega arith)
   proper-none (ArrayOf t (Some m)) h = h
   proper-none VoidTy h = h
@@ -475,21 +475,21 @@ module _ (v : WholeUnit) (done : IsFinished v) where
   none-stored : (lasting : Bool) (p : Part) (s : State) → Gives U v [] (MayFill p s) s (StoredIn lasting p s) (Some (low (nothing s)))
   none-stored lasting p s =
       gives-some U v [] (MayFill p s) s (StoredIn lasting p s) (low (nothing s)) (same-moves U v [] s)
-      (λ l h g. (g, record { whole = proper-none (bare p.t) (proper-bare v p.t h.0); stored = λ os here. (tt, here); constant = λ k e. tt }, none-made v s s refl))
+      (λ l h g. (g, record { whole = proper-none (bare_type p.t) (proper-bare v p.t h.0); stored = λ os here. (tt, here); constant = λ k e. tt }, none-made v s s refl))
 
   -- one part more
   joined-gives : (lasting : Bool) (p q : Part) (s : State) (d : After State Stores) → Moves U v [] s d.state → part_at d.state.unit.completed p d.value.count ≡ Some q → (o : Option (After State Stores))
-      → Gives U v [] (MayFill q d.state) d.state (StoredIn lasting q d.state) (lowered o)
-      → Gives U v [] (MayFill p s × StoredIn lasting p s (low d)) d.state (StoredIn lasting p s) (lowered (option_map (joined d.value) o))
+      → Gives U v [] (MayFill q d.state) d.state (StoredIn lasting q d.state) (to_expressions o)
+      → Gives U v [] (MayFill p s × StoredIn lasting p s (low d)) d.state (StoredIn lasting p s) (to_expressions (option_map (then_part d.value) o))
   joined-gives lasting p q s d m e None h = gives-none U v [] (MayFill p s × StoredIn lasting p s (low d)) d.state (StoredIn lasting p s)
   joined-gives lasting p q s d m e (Some x) h =
-      gives-some U v [] (MayFill p s × StoredIn lasting p s (low d)) d.state (StoredIn lasting p s) (low (joined d.value x)) r.0
+      gives-some U v [] (MayFill p s × StoredIn lasting p s (low d)) d.state (StoredIn lasting p s) (low (then_part d.value x)) r.0
       (λ l k g.
       let before = r.0.later l in
       let may : MayFill p d.state = (k.0.0, can-grown (env s) (env d.state) p.t m.grows k.0.1) in
       let found = part-at-found v d.state.unit.completed g.unit.completed before.unit.layouts p may.0 may.1 d.value.count q e in
       let w = r.1 l (found.found.proper, can-complete (env d.state) q.t found.found.complete) g in
-      let first : End p d.value.count ≤ End p (d.value.count + 1) = let more = sized-more (layouts v) (bare p.t) d.value.count in omega (arith, more) in
+      let first : End p d.value.count ≤ End p (d.value.count + 1) = let more = sized-more (layouts v) (bare_type p.t) d.value.count in omega (arith, more) in
       let last = part-ends d.state before p may d.value.count q found x.value.count in (
         w.0,
         record {
@@ -516,20 +516,20 @@ module _ (v : WholeUnit) (done : IsFinished v) where
   mutual
     unfolding values
 
-    tree-gives : (lasting : Bool) (i : InitializerTree) (p : Part) (s : State) → InitializerCharacters i → s.unevaluated ≡ false → Gives U v [] (MayFill p s) s (StoredIn lasting p s) (lowered (init.initialized values lasting p i s))
+    tree-gives : (lasting : Bool) (i : InitializerTree) (p : Part) (s : State) → InitializerCharacters i → s.unevaluated ≡ false → Gives U v [] (MayFill p s) s (StoredIn lasting p s) (to_expressions (init.initializer_stores values lasting p i s))
     tree-gives lasting (Initial line a) p s c ev =
         formed-gives lasting p s None (gives-none U v [] (MayFill p s) s (StoredIn lasting p s)) (shape_of s.unit.completed p (Initial line a)) (for-shape p s.unit.completed (Initial line a)) (shape-characters p s.unit.completed (Initial line a) c) ev
     tree-gives lasting (Braces line inits comma) p s c ev =
         formed-gives lasting p s (each_initialized values lasting p inits s) (each-gives lasting inits p s c ev) (shape_of s.unit.completed p (Braces line inits comma)) (for-shape p s.unit.completed (Braces line inits comma))
         (shape-characters p s.unit.completed (Braces line inits comma) c) ev
 
-    each-gives : (lasting : Bool) (ts : Trees) (p : Part) (s : State) → TreesCharacters ts → s.unevaluated ≡ false → Gives U v [] (MayFill p s) s (StoredIn lasting p s) (lowered (each_initialized values lasting p ts s))
+    each-gives : (lasting : Bool) (ts : Trees) (p : Part) (s : State) → TreesCharacters ts → s.unevaluated ≡ false → Gives U v [] (MayFill p s) s (StoredIn lasting p s) (to_expressions (each_initialized values lasting p ts s))
     each-gives lasting NoTrees p s c ev = none-stored lasting p s
     each-gives lasting (Then before (OfInitializer i)) p s c ev =
         then-gives v (MayFill p s) s (StoredIn lasting p s) (StoredIn lasting p s) (each_initialized values lasting p before s)
-        (λ d. option_and_then (λ q. option_map (joined d.value) (init.initialized values lasting q i d.state)) (part_at d.state.unit.completed p d.value.count)) (each-gives lasting before p s c.0 ev)
-        (λ d m. value-gives v (MayFill p s × StoredIn lasting p s (low d)) d.state (StoredIn lasting p s) (part_at d.state.unit.completed p d.value.count) (λ q. option_map (joined d.value) (init.initialized values lasting q i d.state))
-        (λ q e. joined-gives lasting p q s d m e (init.initialized values lasting q i d.state) (tree-gives lasting i q d.state c.1 (m.evaluated ∙ ev))))
+        (λ d. option_and_then (λ q. option_map (then_part d.value) (init.initializer_stores values lasting q i d.state)) (part_at d.state.unit.completed p d.value.count)) (each-gives lasting before p s c.0 ev)
+        (λ d m. value-gives v (MayFill p s × StoredIn lasting p s (low d)) d.state (StoredIn lasting p s) (part_at d.state.unit.completed p d.value.count) (λ q. option_map (then_part d.value) (init.initializer_stores values lasting q i d.state))
+        (λ q e. joined-gives lasting p q s d m e (init.initializer_stores values lasting q i d.state) (tree-gives lasting i q d.state c.1 (m.evaluated ∙ ev))))
     each-gives lasting (Then before (OfExpression x)) p s c ev = gives-none U v [] (MayFill p s) s (StoredIn lasting p s)
     each-gives lasting (Then before (OfDeclaration x)) p s c ev = gives-none U v [] (MayFill p s) s (StoredIn lasting p s)
     each-gives lasting (Then before (OfDeclarator x)) p s c ev = gives-none U v [] (MayFill p s) s (StoredIn lasting p s)
@@ -538,7 +538,7 @@ module _ (v : WholeUnit) (done : IsFinished v) where
 
   -- ---- the object (6.7.9p3, p22)
 
-  plain-sized : (t : Ty) (n : ℕ) → IsValueOrVoid t → sized t n ≡ t
+  plain-sized : (t : Ty) (n : ℕ) → IsValueOrVoid t → with_size t n ≡ t
   plain-sized VoidTy n h = refl
   plain-sized (IntTy k) n h = refl
   plain-sized (PointerTo t) n h = refl
@@ -549,7 +549,7 @@ module _ (v : WholeUnit) (done : IsFinished v) where
   plain-sized (ConstOf t) n h = absurd h
 
   -- an array has no qualifier itself (6.7.3p9)
-  whole-proper : (t : Ty) (n : ℕ) → IsProper v t → IsProper v (sized (bare t) n) → IsProper v (sized t n)
+  whole-proper : (t : Ty) (n : ℕ) → IsProper v t → IsProper v (with_size (bare_type t) n) → IsProper v (with_size t n)
   whole-proper VoidTy n p h = p
   whole-proper (IntTy k) n p h = p
   whole-proper (PointerTo t) n p h = p
@@ -559,7 +559,7 @@ module _ (v : WholeUnit) (done : IsFinished v) where
   whole-proper (FunctionTy t ts c) n p h = p
   whole-proper (ConstOf t) n p h = p
 
-  whole-size : (t : Ty) (n : ℕ) → IsProper v t → size (sized (bare t) n) ≡ size (sized t n)
+  whole-size : (t : Ty) (n : ℕ) → IsProper v t → size (with_size (bare_type t) n) ≡ size (with_size t n)
   whole-size VoidTy n p = refl
   whole-size (IntTy k) n p = refl
   whole-size (PointerTo t) n p = refl
@@ -567,40 +567,40 @@ module _ (v : WholeUnit) (done : IsFinished v) where
   whole-size (StructTag k) n p = refl
   whole-size (UnionTag k) n p = refl
   whole-size (FunctionTy t ts c) n p = refl
-  whole-size (ConstOf t) n p = ap (λ u. size (sized u n)) (plain-bare t p.0) ∙ ap size (plain-sized t n p.0)
+  whole-size (ConstOf t) n p = ap (λ u. size (with_size u n)) (plain-bare t p.0) ∙ ap size (plain-sized t n p.0)
 
-  given-in : (lasting : Bool) (t : Ty) (b : Bool) (s : State) (x : After State Stores) → IsProper v t → StoredIn lasting (whole t) s (low x) → GivenIn v lasting t s (low (given t b x))
+  given-in : (lasting : Bool) (t : Ty) (b : Bool) (s : State) (x : After State Stores) → IsProper v t → StoredIn lasting (whole_object t) s (low x) → GivenIn v lasting t s (low (given_to t b x))
   given-in lasting t b s x p h =
       let same = whole-size t x.value.count p in
-      let ends : End (whole t) x.value.count ≤ size (sized t x.value.count) = omega (arith, same) in
+      let ends : End (whole_object t) x.value.count ≤ size (with_size t x.value.count) = omega (arith, same) in
       record {
         proper = whole-proper t x.value.count p h.whole;
         sized = (x.value.count, refl);
-        constant = λ k e. below-more (End (whole t) x.value.count) (size (sized t x.value.count)) (λ u y. IsConstant v u y) x.value.stores ends (h.constant k e);
-        stored = λ os here. let z = h.stored os here in (below-more (End (whole t) x.value.count) (size (sized t x.value.count)) (λ u y. IsInitializer v os u y) x.value.stores ends z.0, z.1);
+        constant = λ k e. below-more (End (whole_object t) x.value.count) (size (with_size t x.value.count)) (λ u y. IsConstant v u y) x.value.stores ends (h.constant k e);
+        stored = λ os here. let z = h.stored os here in (below-more (End (whole_object t) x.value.count) (size (with_size t x.value.count)) (λ u y. IsInitializer v os u y) x.value.stores ends z.0, z.1);
       }
 
-  given-gives : (lasting : Bool) (t : Ty) (b : Bool) (s : State) (o : Option (After State Stores)) → Gives U v [] (IsProper v t) s (StoredIn lasting (whole t) s) (lowered o)
-      → Gives U v [] (IsProper v t) s (GivenIn v lasting t s) (lowered (option_map (given t b) o))
+  given-gives : (lasting : Bool) (t : Ty) (b : Bool) (s : State) (o : Option (After State Stores)) → Gives U v [] (IsProper v t) s (StoredIn lasting (whole_object t) s) (to_expressions o)
+      → Gives U v [] (IsProper v t) s (GivenIn v lasting t s) (to_expressions (option_map (given_to t b) o))
   given-gives lasting t b s None h = gives-none U v [] (IsProper v t) s (GivenIn v lasting t s)
   given-gives lasting t b s (Some x) h =
       let r = h.held (low x) refl in
-      gives-some U v [] (IsProper v t) s (GivenIn v lasting t s) (low (given t b x)) r.0 (λ l p g. let z = r.1 l p g in (z.0, given-in lasting t b s x p z.1, z.2))
+      gives-some U v [] (IsProper v t) s (GivenIn v lasting t s) (low (given_to t b x)) r.0 (λ l p g. let z = r.1 l p g in (z.0, given-in lasting t b s x p z.1, z.2))
 
   -- 6.7.9p3, p22: what an object gets by its initializer
-  pub initializer-gives : (lasting : Bool) (t : Ty) (i : InitializerTree) (s : State) → InitializerCharacters i → s.unevaluated ≡ false → Gives U v [] (IsProper v t) s (GivenIn v lasting t s) (initialized lasting t i s)
+  pub initializer-gives : (lasting : Bool) (t : Ty) (i : InitializerTree) (s : State) → InitializerCharacters i → s.unevaluated ≡ false → Gives U v [] (IsProper v t) s (GivenIn v lasting t s) (typed_initializer lasting t i s)
   unfolding values initialized_object
   initializer-gives lasting t i s c ev = by (can_be_initialized (env s) t) refl
     where
       by : (b : Bool) → can_be_initialized (env s) t ≡ b
-          → Gives U v [] (IsProper v t) s (GivenIn v lasting t s) (lowered (if b then option_map (given t (is_braced s.unit.completed (whole t) i)) (init.initialized values lasting (whole t) i s) else None))
+          → Gives U v [] (IsProper v t) s (GivenIn v lasting t s) (to_expressions (if b then option_map (given_to t (is_braced s.unit.completed (whole_object t) i)) (init.initializer_stores values lasting (whole_object t) i s) else None))
       by false e = gives-none U v [] (IsProper v t) s (GivenIn v lasting t s)
       by true e =
-          given-gives lasting t (is_braced s.unit.completed (whole t) i) s (init.initialized values lasting (whole t) i s)
-          (gives-weaker U U (MayFill (whole t) s) (IsProper v t) v [] s (StoredIn lasting (whole t) s) (StoredIn lasting (whole t) s) (lowered (init.initialized values lasting (whole t) i s)) (λ f. f) (λ p. (p, e)) (λ a q. q)
-          (tree-gives lasting i (whole t) s c ev))
+          given-gives lasting t (is_braced s.unit.completed (whole_object t) i) s (init.initializer_stores values lasting (whole_object t) i s)
+          (gives-weaker U U (MayFill (whole_object t) s) (IsProper v t) v [] s (StoredIn lasting (whole_object t) s) (StoredIn lasting (whole_object t) s) (to_expressions (init.initializer_stores values lasting (whole_object t) i s)) (λ f. f) (λ p. (p, e)) (λ a q. q)
+          (tree-gives lasting i (whole_object t) s c ev))
 
   -- the same in a block, whose names are told otherwise
-  pub initializer-inside : (lasting : Bool) (t : Ty) (i : InitializerTree) (s : State) → InitializerCharacters i → s.unevaluated ≡ false → Gives ⊥ v [] (IsProper v t) s (GivenIn v lasting t s) (initialized lasting t i s)
+  pub initializer-inside : (lasting : Bool) (t : Ty) (i : InitializerTree) (s : State) → InitializerCharacters i → s.unevaluated ≡ false → Gives ⊥ v [] (IsProper v t) s (GivenIn v lasting t s) (typed_initializer lasting t i s)
   initializer-inside lasting t i s c ev =
-      gives-weaker U ⊥ (IsProper v t) (IsProper v t) v [] s (GivenIn v lasting t s) (GivenIn v lasting t s) (initialized lasting t i s) (λ f. absurd f) (λ p. p) (λ a q. q) (initializer-gives lasting t i s c ev)
+      gives-weaker U ⊥ (IsProper v t) (IsProper v t) v [] s (GivenIn v lasting t s) (GivenIn v lasting t s) (typed_initializer lasting t i s) (λ f. absurd f) (λ p. p) (λ a q. q) (initializer-gives lasting t i s c ev)

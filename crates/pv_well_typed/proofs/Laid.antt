@@ -8,7 +8,7 @@ use Rattle.pv_types.specs.LayoutParts.{or_none}
 use Rattle.pv_types.specs.Ty.{Ty}
 use Rattle.pv_types.proofs.Fills.{lt_true, layout_of-fills, AllFill-append}
 use Rattle.pv_types.proofs.LayoutLaws.{look-last, layouts-push, AreComplete-append}
-use Rattle.pv_check.specs.Derivations.{Steps, derived}
+use Rattle.pv_check.specs.Derivations.{Steps, derived_type}
 use Rattle.pv_check.specs.Rows.{member_of}
 use Rattle.pv_check.specs.State.{After, give, env}
 use Rattle.pv_typed.specs.Constants.{and_then}
@@ -94,7 +94,7 @@ complete-more es (x ∷ xs) m h e = (h.0, complete-more es xs m h.1 e)
 pub member-complete : (k : Option (ℕ × ℕ)) (t : Ty) (ms : List Named) (a : After Steps) (m : After (List Named)) → AreComplete (env a.state) ms → member_of k t ms a ≡ Some m → HasCompleteMembers m
 member-complete None t ms a m h e = absurd cc
 member-complete (Some (n, line)) t ms a m h e =
-    let u = from-some (derived false (env a.state) a.value.list t) (λ u. give (with_member a.state ms n u) a.state) m e in
+    let u = from-some (derived_type false (env a.state) a.value.list t) (λ u. give (with_member a.state ms n u) a.state) m e in
     by u.0 (is_complete_in (env a.state) u.0 && is_new_member n ms) refl u.2
   where
     by : (u : Ty) (b : Bool) → (is_complete_in (env a.state) u && is_new_member n ms) ≡ b → give (if b then Some (ms ++ (record { name = n; t = u } ∷ [])) else None) a.state ≡ Some m → HasCompleteMembers m

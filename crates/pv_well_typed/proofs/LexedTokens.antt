@@ -9,7 +9,7 @@ use Rattle.std.specs.Cmp.Lexicographic.{pointwise}
 use Rattle.std.proofs.lemmas.Bool.{ltb-true}
 use Rattle.std.proofs.lemmas.Int.{ints}
 use Rattle.pv_num.specs.declared.kinds.IntKind.TheVariants.{Int}
-use Rattle.pv_num.specs.Kinds.{Fits, least, greatest}
+use Rattle.pv_num.specs.Kinds.{Fits, least_member, greatest_member}
 use Rattle.pv_token.specs.declared.marks.Mark.{Mark}
 use Rattle.pv_token.specs.declared.words.Word.{Word}
 use Rattle.pv_token.specs.Said.{Said, Name, Text, Keyword, Number, Character, Punctuator, Spelt, as_char}
@@ -20,16 +20,16 @@ use Rattle.pv_lex.specs.Bytes.{is_white, is_letter, run, front, behind, begins, 
 use Rattle.pv_lex.specs.Tables.{row_of, first_row}
 use Rattle.pv_lex.specs.Pieces.{What, White, Comment, Marker, Spelling, Piece, Stand, End, Bad, Here, ◌>>=◌, or_bad, token}
 use Rattle.pv_lex.specs.Words.{words, is_wide, is_quote, keyword_or_name, word_at}
-use Rattle.pv_lex.specs.Constants.{suffixes, sized, number_of, constant_of, number_at, value_from}
+use Rattle.pv_lex.specs.Constants.{suffixes, constant_of_value, number_of, constant_of, number_at, value_from}
 use Rattle.pv_lex.specs.ConstantParts.{fits_constant}
-use Rattle.pv_lex.specs.Characters.{escapes, numbered, escape_at, character_at, character_constant, characters, string_literal}
+use Rattle.pv_lex.specs.Characters.{escapes, character_by_number, escape_at, character_at, character_constant, characters, string_literal}
 use Rattle.pv_lex.specs.CharacterParts.{closed_character}
 use Rattle.pv_lex.specs.Comments.{behind_close, block_comment}
-use Rattle.pv_lex.specs.Markers.{some_of, quoted, groups, marker}
+use Rattle.pv_lex.specs.Markers.{some_of, behind_quotes, groups, marker}
 use Rattle.pv_lex.specs.MarkerParts.{marker_piece, mark_row}
 use Rattle.pv_lex.specs.Marks.{marks, mark_at}
 use Rattle.pv_lex.specs.Stands.{stands}
-use Rattle.pv_lex.specs.Rows.{Place, start, Row, spelt, spelt_here, behind_piece}
+use Rattle.pv_lex.specs.Rows.{Place, start, Row, tokens_among, spelt_here, behind_piece}
 use Rattle.pv_lex.proofs.Wholes.{takes_piece}
 use Rattle.pv_typed.specs.Known.{Each}
 use Rattle.pv_typed.specs.TypedUnits.{WholeUnit}
@@ -166,24 +166,24 @@ drop-shorter (suc n) (b ∷ bs) = let r = drop-shorter n bs in omega (arith, r)
 char-fits : (b : ℕ) → b < 256 → Fits Int (as_char b)
 char-fits b h = by b h (nat_lt b 128)
   where
-    low : (b : ℕ) → least Int ≤ℤ pos b
+    low : (b : ℕ) → least_member Int ≤ℤ pos b
     low b = grind (arith, ints)
 
-    high : (b : ℕ) → b < 256 → pos b ≤ℤ greatest Int
+    high : (b : ℕ) → b < 256 → pos b ≤ℤ greatest_member Int
     high b h = grind (arith, ints)
 
-    low-less : (b : ℕ) → least Int ≤ℤ (pos b -ℤ pos 256)
+    low-less : (b : ℕ) → least_member Int ≤ℤ (pos b -ℤ pos 256)
     low-less b = grind (arith, ints)
 
-    high-less : (b : ℕ) → b < 256 → (pos b -ℤ pos 256) ≤ℤ greatest Int
+    high-less : (b : ℕ) → b < 256 → (pos b -ℤ pos 256) ≤ℤ greatest_member Int
     high-less b h = grind (arith, ints)
 
     by : (b : ℕ) → b < 256 → (c : Bool) → Fits Int (if c then pos b else (pos b -ℤ pos 256))
     by b h true = (low b, high b h)
     by b h false = (low-less b, high-less b h)
 
-numbered-one : (n base : ℕ) (digits after : List ℕ) → AreBytes after → length after < n → IfCharacter n (numbered base digits after)
-unfolding numbered
+numbered-one : (n base : ℕ) (digits after : List ℕ) → AreBytes after → length after < n → IfCharacter n (character_by_number base digits after)
+unfolding character_by_number
 numbered-one n base [] after h lt = character-none
 numbered-one n base (d ∷ ds) after h lt = by (nat_lt (value_from base 0 (d ∷ ds)) 256) refl
   where
@@ -221,8 +221,8 @@ simple-one n bs (Some k) h lt small = character-some (k, bs) (small k refl, h, l
 
 -- The enum of classes of bytes is the lexer's own, so `_` stands for it in what follows.
 escape-for : (c : Bool) (o x : _) (b : ℕ) (bs : List ℕ) → AreBytes (b ∷ bs)
-    → IfCharacter (suc (length (b ∷ bs))) (if c then numbered 8 (take (min 3 (run o (b ∷ bs))) (b ∷ bs)) (drop (min 3 (run o (b ∷ bs))) (b ∷ bs))
-    else (if nat_eq b 120 then numbered 16 (front x bs) (behind x bs) else option_map (λ n. (n, bs)) (row_of escapes (b ∷ []))))
+    → IfCharacter (suc (length (b ∷ bs))) (if c then character_by_number 8 (take (min 3 (run o (b ∷ bs))) (b ∷ bs)) (drop (min 3 (run o (b ∷ bs))) (b ∷ bs))
+    else (if nat_eq b 120 then character_by_number 16 (front x bs) (behind x bs) else option_map (λ n. (n, bs)) (row_of escapes (b ∷ []))))
 escape-for c o x b bs h =
     let octal = drop-shorter (min 3 (run o (b ∷ bs))) (b ∷ bs) in
     let hex = drop-shorter (run x bs) bs in
@@ -278,7 +278,7 @@ number-said : (base : ℕ) (digits suffix : List ℕ) → IfSaid (number_of base
 unfolding number_of
 number-said base [] suffix = said-none
 number-said base (d ∷ ds) suffix =
-    said-then (row_of suffixes suffix) (sized base (value_from base 0 (d ∷ ds))) (λ s. said-if (fits_constant base (value_from base 0 (d ∷ ds)) s) (said-some _ (λ n after. tt)) said-none)
+    said-then (row_of suffixes suffix) (constant_of_value base (value_from base 0 (d ∷ ds))) (λ s. said-if (fits_constant base (value_from base 0 (d ∷ ds)) s) (said-some _ (λ n after. tt)) said-none)
 
 constant-for : (h o d : _) (text : List ℕ)
     → IfSaid (if starts_with nat_eq text (codes "0x") || starts_with nat_eq text (codes "0X") then number_of 16 (front h (drop 2 text)) (behind h (drop 2 text))
@@ -306,12 +306,12 @@ number-marked : (n : ℕ) (digits after : List ℕ) → IfPiece n (marker_piece 
 number-marked n digits after =
     piece-if (nat_le (length digits) 10 && nat_le (value_from 10 0 digits) 2147483647) (piece-some (record { what = Marker (value_from 10 0 digits); after = after }) tt) piece-none
 
-marker-for : (m : ℕ) (k d : _) (text : List ℕ) → IfPiece m (some_of k text >>= λ a. some_of d a.1 >>= λ n. some_of k n.1 >>= λ b. quoted b.1 >>= λ name. groups (length name) name >>= λ after. marker_piece n.0 after)
+marker-for : (m : ℕ) (k d : _) (text : List ℕ) → IfPiece m (some_of k text >>= λ a. some_of d a.1 >>= λ n. some_of k n.1 >>= λ b. behind_quotes b.1 >>= λ name. groups (length name) name >>= λ after. marker_piece n.0 after)
 marker-for m k d text =
-    piece-then (some_of k text) (λ a. some_of d a.1 >>= λ n. some_of k n.1 >>= λ b. quoted b.1 >>= λ name. groups (length name) name >>= λ after. marker_piece n.0 after) (λ a.
-    piece-then (some_of d a.1) (λ n. some_of k n.1 >>= λ b. quoted b.1 >>= λ name. groups (length name) name >>= λ after. marker_piece n.0 after) (λ n.
-    piece-then (some_of k n.1) (λ b. quoted b.1 >>= λ name. groups (length name) name >>= λ after. marker_piece n.0 after) (λ b.
-    piece-then (quoted b.1) (λ name. groups (length name) name >>= λ after. marker_piece n.0 after) (λ name.
+    piece-then (some_of k text) (λ a. some_of d a.1 >>= λ n. some_of k n.1 >>= λ b. behind_quotes b.1 >>= λ name. groups (length name) name >>= λ after. marker_piece n.0 after) (λ a.
+    piece-then (some_of d a.1) (λ n. some_of k n.1 >>= λ b. behind_quotes b.1 >>= λ name. groups (length name) name >>= λ after. marker_piece n.0 after) (λ n.
+    piece-then (some_of k n.1) (λ b. behind_quotes b.1 >>= λ name. groups (length name) name >>= λ after. marker_piece n.0 after) (λ b.
+    piece-then (behind_quotes b.1) (λ name. groups (length name) name >>= λ after. marker_piece n.0 after) (λ name.
     piece-then (groups (length name) name) (λ after. marker_piece n.0 after) (λ after. number-marked m n.0 after)))))
 
 marker-stood : (n : ℕ) (text : List ℕ) → IfPiece n (marker text)
@@ -374,10 +374,10 @@ here-source n after start line (Spelling s) h = (said-source n after s h, tt)
 behind-bytes : (x : Piece) (p : Place) → stands p.fresh p.text ≡ Here x → AreBytes p.text → AreBytes x.after
 behind-bytes x p e b = let t = takes_piece p.fresh p.text x e in each_right (λ n. n < 256) t.taken x.after (subst AreBytes t.is b)
 
-spelt-source : (whole : ℕ) (p q : Place) (xs : List Piece) → AreBytes p.text → Row p xs q → Each (λ (s : Spelt). IsSourceToken s.said) (spelt whole p xs)
+spelt-source : (whole : ℕ) (p q : Place) (xs : List Piece) → AreBytes p.text → Row p xs q → Each (λ (s : Spelt). IsSourceToken s.said) (tokens_among whole p xs)
 spelt-source whole p q [] b h = tt
 spelt-source whole p q (x ∷ xs) b h =
-    each_append (λ (s : Spelt). IsSourceToken s.said) (spelt_here (whole - length p.text) p.line x.what) (spelt whole (behind_piece x p) xs)
+    each_append (λ (s : Spelt). IsSourceToken s.said) (spelt_here (whole - length p.text) p.line x.what) (tokens_among whole (behind_piece x p) xs)
     (here-source (length p.text) (length x.after) (whole - length p.text) p.line x.what ((all-stood p.fresh p.text b).here x h.0))
     (spelt-source whole (behind_piece x p) q xs (behind-bytes x p h.0 b) h.1)
 
@@ -403,10 +403,10 @@ behind-shorter x p e =
     let whole = ap (λ (xs : List ℕ). length xs) t.is in
     omega (arith, l, whole)
 
-spelt-letters : (whole : ℕ) (p q : Place) (xs : List Piece) → AreBytes p.text → Row p xs q → letters (texts_of (spelt whole p xs)) ≤ length p.text
+spelt-letters : (whole : ℕ) (p q : Place) (xs : List Piece) → AreBytes p.text → Row p xs q → letters (texts_of (tokens_among whole p xs)) ≤ length p.text
 spelt-letters whole p q [] b h = omega arith
 spelt-letters whole p q (x ∷ xs) b h =
-    here-letters (length p.text) (length x.after) (whole - length p.text) p.line x.what (spelt whole (behind_piece x p) xs) ((all-stood p.fresh p.text b).here x h.0) (behind-shorter x p h.0)
+    here-letters (length p.text) (length x.after) (whole - length p.text) p.line x.what (tokens_among whole (behind_piece x p) xs) ((all-stood p.fresh p.text b).here x h.0) (behind-shorter x p h.0)
     (spelt-letters whole (behind_piece x p) q xs (behind-bytes x p h.0 b) h.1)
 
 -- ---- 6.9: a unit that comes of a source is well typed
@@ -416,4 +416,4 @@ typed-lexed source t ds v c =
     let lexed = c.lexed in
     let short = c.short in
     let few = spelt-letters (length source) (start source) lexed.last lexed.pieces c.bytes lexed.row in
-    typed-source t (spelt (length source) (start source) lexed.pieces) ds v lexed.tells (spelt-source (length source) (start source) lexed.last lexed.pieces c.bytes lexed.row) (omega (arith, few, short)) c.spelled c.comes
+    typed-source t (tokens_among (length source) (start source) lexed.pieces) ds v lexed.tells (spelt-source (length source) (start source) lexed.last lexed.pieces c.bytes lexed.row) (omega (arith, few, short)) c.spelled c.comes

@@ -6,7 +6,7 @@ use Rattle.pv_typed.proofs.Each.{each_append, each_weaker}
 use Rattle.pv_typed.specs.Adding.{with_literal}
 use Rattle.pv_typed.specs.TypedUnits.{Literal}
 use Rattle.pv_typed.specs.UnitParts.{no_literal}
-use Rattle.pv_check.specs.StringLiterals.{bytes_of_text, joined}
+use Rattle.pv_check.specs.StringLiterals.{bytes_of_text, concatenation_of}
 use Rattle.pv_check.specs.State.{State, env}
 use Rattle.pv_well_typed.proofs.PrimaryRows.{each-at, last-at, beyond-at}
 use Rattle.pv_well_typed.proofs.Changes.{before-at}
@@ -46,10 +46,10 @@ written-orderly line bytes s instance good h =
     ends x one false = ended-more s.unit.literals x s.unit.instances h.ended
 
 -- 6.4.5p5, p6: the characters of string literals in a row, and the zero behind them
-joined-bytes : (texts : List (List ℕ)) (first more : ℕ) → Each AreBytes texts → AreBytes (joined texts first more)
+joined-bytes : (texts : List (List ℕ)) (first more : ℕ) → Each AreBytes texts → AreBytes (concatenation_of texts first more)
 joined-bytes texts first zero h = each-at AreBytes [] texts first tt h
 joined-bytes texts first (suc more) h =
-    each_append (λ b. b < 256) (joined texts first more) (get_or texts (first + suc more) []) (joined-bytes texts first more h) (each-at AreBytes [] texts (first + suc more) tt h)
+    each_append (λ b. b < 256) (concatenation_of texts first more) (get_or texts (first + suc more) []) (joined-bytes texts first more h) (each-at AreBytes [] texts (first + suc more) tt h)
 
 -- 5.2.4.1p1: they are no longer than all texts together
 abbrev letters-to : ℕ → List (List ℕ) → ℕ
@@ -68,14 +68,14 @@ to-next zero (x ∷ xs) = omega arith
 to-next (suc n) [] = omega arith
 to-next (suc n) (x ∷ xs) = let r = to-next n xs in omega (arith, r)
 
-joined-within : (texts : List (List ℕ)) (first more k : ℕ) → k ≡ first + more → length (joined texts first more) ≤ letters-to (suc k) texts
+joined-within : (texts : List (List ℕ)) (first more k : ℕ) → k ≡ first + more → length (concatenation_of texts first more) ≤ letters-to (suc k) texts
 joined-within texts first zero k e =
     let same : k ≡ first = omega (arith, e) in
     let r = to-next k texts in
     let s = ap (λ i. length (get_or texts i [])) same in
     omega (arith, r, s)
 joined-within texts first (suc more) k e =
-    let l = length-append (joined texts first more) (get_or texts (first + suc more) []) in
+    let l = length-append (concatenation_of texts first more) (get_or texts (first + suc more) []) in
     let before = joined-within texts first more (first + more) refl in
     let same : k ≡ suc (first + more) = omega (arith, e) in
     let r = to-next k texts in
@@ -85,9 +85,9 @@ joined-within texts first (suc more) k e =
 
 pub text-bytes : (texts : List (List ℕ)) (first more : ℕ) → AreTexts texts → IsText (bytes_of_text texts first more)
 text-bytes texts first more h = (
-  each_append (λ b. b < 256) (joined texts first more) (0 ∷ []) (joined-bytes texts first more h.0) (omega arith, tt),
-  let l = length-append (joined texts first more) (0 ∷ []) in omega (arith, l),
-  let l = length-append (joined texts first more) (0 ∷ []) in
+  each_append (λ b. b < 256) (concatenation_of texts first more) (0 ∷ []) (joined-bytes texts first more h.0) (omega arith, tt),
+  let l = length-append (concatenation_of texts first more) (0 ∷ []) in omega (arith, l),
+  let l = length-append (concatenation_of texts first more) (0 ∷ []) in
       let j = joined-within texts first more (first + more) refl in
       let w = to-within (suc (first + more)) texts in
       let few = h.1 in

@@ -8,12 +8,12 @@ use Rattle.pv_typed.specs.TypedTree.{TypedTree}
 use Rattle.pv_typed.specs.TypedStatement as typed
 use Rattle.pv_typed.specs.TypedStatement.{TypedStatement, statements_of}
 use Rattle.pv_typed.specs.TypedUnits.{WholeUnit}
-use Rattle.pv_types.specs.Sorts.{is_void, bare}
+use Rattle.pv_types.specs.Sorts.{is_void, bare_type}
 use Rattle.pv_check.specs.State.{State, After, give}
-use Rattle.pv_check.specs.Scopes.{entered, left}
+use Rattle.pv_check.specs.Scopes.{in_new_scope, behind_scope}
 use Rattle.pv_typed.specs.Constants.{and_then}
-use Rattle.pv_check.specs.Values.{assigned}
-use Rattle.pv_unit.specs.Statements.{leaving, valued, condition, optional, returned, declared_by, declared_in}
+use Rattle.pv_check.specs.Values.{as_if_assigned}
+use Rattle.pv_unit.specs.Statements.{leaving, taken_value, condition, expression_if_any, return_of, declared_by, declared_in}
 use Rattle.pv_unit.specs.StatementParts.{value_returned}
 use Rattle.pv_unit.specs.Made.{do_made, for_made, round_made, expression_of, expression_made}
 use Rattle.pv_guards.specs.Typed.{AreLike, IsIn}
@@ -61,11 +61,11 @@ module _ (v : WholeUnit) (done : IsFinished v) where
   abbrev MayBeControlling : State → After (Option TypedTree) → Type 0
   MayBeControlling s = Behind v s (IsMaybe IsConditionAmong)
 
-  maybe-value : (P : Type 0) (o : OptionalTree) → OptionalCharacters o → (s : State) → Gives ⊥ v [] P s (MayBeValue s) (optional valued o s)
-  maybe-value P o c s = any-given v P s (MayBeValue s) (optional valued o s) (optional-gives v done IsValueAmong valued HasCharacters (valued-gives v done) o (optional-characters o c) s)
+  maybe-value : (P : Type 0) (o : OptionalTree) → OptionalCharacters o → (s : State) → Gives ⊥ v [] P s (MayBeValue s) (expression_if_any taken_value o s)
+  maybe-value P o c s = any-given v P s (MayBeValue s) (expression_if_any taken_value o s) (optional-gives v done IsValueAmong taken_value HasCharacters (valued-gives v done) o (optional-characters o c) s)
 
-  maybe-controlling : (P : Type 0) (o : OptionalTree) → OptionalCharacters o → (s : State) → Gives ⊥ v [] P s (MayBeControlling s) (optional condition o s)
-  maybe-controlling P o c s = any-given v P s (MayBeControlling s) (optional condition o s) (optional-gives v done IsConditionAmong condition HasCharacters (condition-gives v done) o (optional-characters o c) s)
+  maybe-controlling : (P : Type 0) (o : OptionalTree) → OptionalCharacters o → (s : State) → Gives ⊥ v [] P s (MayBeControlling s) (expression_if_any condition o s)
+  maybe-controlling P o c s = any-given v P s (MayBeControlling s) (expression_if_any condition o s) (optional-gives v done IsConditionAmong condition HasCharacters (condition-gives v done) o (optional-characters o c) s)
 
   value-typed : (os : List ℕ) (o : Option TypedTree) → IsMaybe IsValueAmong os o → MayBeTyped v os o
   value-typed os None h = tt
@@ -81,9 +81,9 @@ module _ (v : WholeUnit) (done : IsFinished v) where
   expression-in r line s None t h = record { plain = refl; typed = λ k os here avoid. (tt, (h os here).1) }
   expression-in r line s (Some x) t h = record { plain = refl; typed = λ k os here avoid. let z = h os here in (z.0.typed tt, z.1) }
 
-  pub expression-gives : (r : Ty) (line : ℕ) (a : OptionalTree) → OptionalCharacters a → (s : State) → Gives ⊥ v [] U s (StatementIn v r s) (and_then (optional valued a s) (expression_made line))
+  pub expression-gives : (r : Ty) (line : ℕ) (a : OptionalTree) → OptionalCharacters a → (s : State) → Gives ⊥ v [] U s (StatementIn v r s) (and_then (expression_if_any taken_value a s) (expression_made line))
   expression-gives r line a c s =
-      gives-then ⊥ v [] U s (MayBeValue s) (StatementIn v r s) (optional valued a s) (expression_made line) (maybe-value U a c s)
+      gives-then ⊥ v [] U s (MayBeValue s) (StatementIn v r s) (expression_if_any taken_value a s) (expression_made line) (maybe-value U a c s)
       (λ x m. gives-here ⊥ v [] (U × MayBeValue s x) x.state (StatementIn v r s) (Some (expression_of line x.value))
       (λ y e l p g. made-statement v done r s (expression_of line x.value) x.state (expression-in r line s x.value x.state p.1) y e))
 
@@ -98,10 +98,10 @@ module _ (v : WholeUnit) (done : IsFinished v) where
 
   value-returned : (q r : Ty) → Returns q r → (line : ℕ) (s : State) (a : After TypedTree) → Gives ⊥ v [] (U × Behind v s IsValueAmong a) a.state (StatementIn v r s) (value_returned q line a)
   value-returned q r like line s a =
-      gives-unless ⊥ v [] (U × Behind v s IsValueAmong a) a.state (StatementIn v r s) (is_void q) (and_then (assigned q a.value) (λ e. give (Some (typed.Return line (Some e))) a.state))
-      (λ z. by (assigned q a.value) refl)
+      gives-unless ⊥ v [] (U × Behind v s IsValueAmong a) a.state (StatementIn v r s) (is_void q) (and_then (as_if_assigned q a.value) (λ e. give (Some (typed.Return line (Some e))) a.state))
+      (λ z. by (as_if_assigned q a.value) refl)
     where
-      by : (o : Option TypedTree) → assigned q a.value ≡ o → Gives ⊥ v [] (U × Behind v s IsValueAmong a) a.state (StatementIn v r s) (and_then o (λ e. give (Some (typed.Return line (Some e))) a.state))
+      by : (o : Option TypedTree) → as_if_assigned q a.value ≡ o → Gives ⊥ v [] (U × Behind v s IsValueAmong a) a.state (StatementIn v r s) (and_then o (λ e. give (Some (typed.Return line (Some e))) a.state))
       by None z = gives-none ⊥ v [] (U × Behind v s IsValueAmong a) a.state (StatementIn v r s)
       by (Some e) z =
           gives-here ⊥ v [] (U × Behind v s IsValueAmong a) a.state (StatementIn v r s) (Some (typed.Return line (Some e)))
@@ -110,16 +110,16 @@ module _ (v : WholeUnit) (done : IsFinished v) where
             typed = λ kept os here avoid.
                 let k = p.1 os here in
                 let c = assigned-row U v os q a.value k.0 e z in
-                ((q, c.converted.typed tt, has-type U v os (bare q) e c.converted, like.like), k.1);
+                ((q, c.converted.typed tt, has-type U v os (bare_type q) e c.converted, like.like), k.1);
           }) y i)
 
-  pub returned-gives : (q r : Ty) → Returns q r → (line : ℕ) (o : OptionalTree) → OptionalCharacters o → (s : State) → Gives ⊥ v [] U s (StatementIn v r s) (returned q line o s)
+  pub returned-gives : (q r : Ty) → Returns q r → (line : ℕ) (o : OptionalTree) → OptionalCharacters o → (s : State) → Gives ⊥ v [] U s (StatementIn v r s) (return_of q line o s)
   returned-gives q r like line Absent c s =
       gives-if ⊥ v [] U s (StatementIn v r s) (is_void q) (give (Some (typed.Return line None)) s)
       (λ z. gives-here ⊥ v [] U s (StatementIn v r s) (Some (typed.Return line None))
       (λ y i l p g. made-statement v done r s (typed.Return line None) s (record { plain = refl; typed = λ kept os here avoid. (like.none z, here) }) y i))
   returned-gives q r like line (Present (OfExpression a)) c s =
-      gives-then ⊥ v [] U s (Behind v s IsValueAmong) (StatementIn v r s) (valued a s) (value_returned q line) (valued-gives v done a c s) (λ x m. value-returned q r like line s x)
+      gives-then ⊥ v [] U s (Behind v s IsValueAmong) (StatementIn v r s) (taken_value a s) (value_returned q line) (valued-gives v done a c s) (λ x m. value-returned q r like line s x)
   returned-gives q r like line (Present (OfDeclaration x)) c s = gives-none ⊥ v [] U s (StatementIn v r s)
   returned-gives q r like line (Present (OfDeclarator x)) c s = gives-none ⊥ v [] U s (StatementIn v r s)
   returned-gives q r like line (Present (OfSpecifier x)) c s = gives-none ⊥ v [] U s (StatementIn v r s)
@@ -129,9 +129,9 @@ module _ (v : WholeUnit) (done : IsFinished v) where
   -- ---- 6.8.5.2: `do`
 
   pub do-gives : (r : Ty) (line : ℕ) (a : ExpressionTree) → HasCharacters a → (body : State → Option (After TypedStatement)) → ((t : State) → t.unevaluated ≡ false → Gives ⊥ v [] U t (StatementIn v r t) (body t)) → (s : State) → s.unevaluated ≡ false
-      → Gives ⊥ v [] U s (StatementIn v r s) (and_then (leaving (body (entered s))) (λ b. and_then (condition a b.state) (do_made line b.value)))
+      → Gives ⊥ v [] U s (StatementIn v r s) (and_then (leaving (body (in_new_scope s))) (λ b. and_then (condition a b.state) (do_made line b.value)))
   do-gives r line a chars body h s ev =
-      gives-then ⊥ v [] U s (StatementIn v r s) (StatementIn v r s) (leaving (body (entered s))) (λ b. and_then (condition a b.state) (do_made line b.value)) (inner v done r U s (body (entered s)) (h (entered s) ev))
+      gives-then ⊥ v [] U s (StatementIn v r s) (StatementIn v r s) (leaving (body (in_new_scope s))) (λ b. and_then (condition a b.state) (do_made line b.value)) (inner v done r U s (body (in_new_scope s)) (h (in_new_scope s) ev))
       (λ b m. gives-then ⊥ v [] (U × StatementIn v r s b) b.state (IsConditionIn v done b.state) (StatementIn v r s) (condition a b.state) (do_made line b.value)
       (any-given v (U × StatementIn v r s b) b.state (IsConditionIn v done b.state) (condition a b.state) (condition-gives v done a chars b.state))
       (λ c n. gives-here ⊥ v [] ((U × StatementIn v r s b) × IsConditionIn v done b.state c) c.state (StatementIn v r s) (Some (typed.DoWhile line b.value c.value))
@@ -148,16 +148,16 @@ module _ (v : WholeUnit) (done : IsFinished v) where
   pub for-gives : (r : Ty) (line : ℕ) (first a step : OptionalTree) → OptionalCharacters first → OptionalCharacters a → OptionalCharacters step
       → (body : State → Option (After TypedStatement)) → ((t : State) → t.unevaluated ≡ false → Gives ⊥ v [] U t (StatementIn v r t) (body t)) → (s : State) → s.unevaluated ≡ false
       → Gives ⊥ v [] U s (StatementIn v r s)
-      (and_then (optional valued first s) (λ f. and_then (optional condition a f.state) (λ c. and_then (optional valued step c.state) (λ t. and_then (leaving (body (entered t.state))) (for_made line f.value c.value t.value)))))
+      (and_then (expression_if_any taken_value first s) (λ f. and_then (expression_if_any condition a f.state) (λ c. and_then (expression_if_any taken_value step c.state) (λ t. and_then (leaving (body (in_new_scope t.state))) (for_made line f.value c.value t.value)))))
   for-gives r line first a step cf ca cs body h s ev =
-      gives-then ⊥ v [] U s (MayBeValue s) (StatementIn v r s) (optional valued first s)
-      (λ f. and_then (optional condition a f.state) (λ c. and_then (optional valued step c.state) (λ t. and_then (leaving (body (entered t.state))) (for_made line f.value c.value t.value)))) (maybe-value U first cf s)
-      (λ f i. gives-then ⊥ v [] (U × MayBeValue s f) f.state (MayBeControlling f.state) (StatementIn v r s) (optional condition a f.state)
-      (λ c. and_then (optional valued step c.state) (λ t. and_then (leaving (body (entered t.state))) (for_made line f.value c.value t.value))) (maybe-controlling (U × MayBeValue s f) a ca f.state)
-      (λ c j. gives-then ⊥ v [] ((U × MayBeValue s f) × MayBeControlling f.state c) c.state (MayBeValue c.state) (StatementIn v r s) (optional valued step c.state)
-      (λ t. and_then (leaving (body (entered t.state))) (for_made line f.value c.value t.value)) (maybe-value ((U × MayBeValue s f) × MayBeControlling f.state c) step cs c.state)
-      (λ t m. gives-then ⊥ v [] (((U × MayBeValue s f) × MayBeControlling f.state c) × MayBeValue c.state t) t.state (StatementIn v r t.state) (StatementIn v r s) (leaving (body (entered t.state))) (for_made line f.value c.value t.value)
-      (inner v done r (((U × MayBeValue s f) × MayBeControlling f.state c) × MayBeValue c.state t) t.state (body (entered t.state)) (h (entered t.state) (m.evaluated ∙ j.evaluated ∙ i.evaluated ∙ ev)))
+      gives-then ⊥ v [] U s (MayBeValue s) (StatementIn v r s) (expression_if_any taken_value first s)
+      (λ f. and_then (expression_if_any condition a f.state) (λ c. and_then (expression_if_any taken_value step c.state) (λ t. and_then (leaving (body (in_new_scope t.state))) (for_made line f.value c.value t.value)))) (maybe-value U first cf s)
+      (λ f i. gives-then ⊥ v [] (U × MayBeValue s f) f.state (MayBeControlling f.state) (StatementIn v r s) (expression_if_any condition a f.state)
+      (λ c. and_then (expression_if_any taken_value step c.state) (λ t. and_then (leaving (body (in_new_scope t.state))) (for_made line f.value c.value t.value))) (maybe-controlling (U × MayBeValue s f) a ca f.state)
+      (λ c j. gives-then ⊥ v [] ((U × MayBeValue s f) × MayBeControlling f.state c) c.state (MayBeValue c.state) (StatementIn v r s) (expression_if_any taken_value step c.state)
+      (λ t. and_then (leaving (body (in_new_scope t.state))) (for_made line f.value c.value t.value)) (maybe-value ((U × MayBeValue s f) × MayBeControlling f.state c) step cs c.state)
+      (λ t m. gives-then ⊥ v [] (((U × MayBeValue s f) × MayBeControlling f.state c) × MayBeValue c.state t) t.state (StatementIn v r t.state) (StatementIn v r s) (leaving (body (in_new_scope t.state))) (for_made line f.value c.value t.value)
+      (inner v done r (((U × MayBeValue s f) × MayBeControlling f.state c) × MayBeValue c.state t) t.state (body (in_new_scope t.state)) (h (in_new_scope t.state) (m.evaluated ∙ j.evaluated ∙ i.evaluated ∙ ev)))
       (λ b n. gives-here ⊥ v [] ((((U × MayBeValue s f) × MayBeControlling f.state c) × MayBeValue c.state t) × StatementIn v r t.state b) b.state (StatementIn v r s) (Some (typed.For line f.value c.value t.value b.value))
       (λ y e l p g. made-statement v done r s (typed.For line f.value c.value t.value b.value) b.state (record {
         plain = refl;
@@ -176,7 +176,7 @@ module _ (v : WholeUnit) (done : IsFinished v) where
     pub plain : declared_by a.value ≡ []
     pub typed : Kept v a.state → (os : List ℕ) → Here v os s → Avoids (count s) (count a.state) os → IsTypedStatement v r os a.value × (a.state.unevaluated ≡ false)
 
-  pub scoped-left : (r : Ty) (s : State) (x : After TypedStatement) → Outer (entered s).scopes x.state.scopes → ScopedIn r (entered s) x → StatementIn v r s (record { value = x.value; state = left x.state })
+  pub scoped-left : (r : Ty) (s : State) (x : After TypedStatement) → Outer (in_new_scope s).scopes x.state.scopes → ScopedIn r (in_new_scope s) x → StatementIn v r s (record { value = x.value; state = behind_scope x.state })
   scoped-left r s x outer h = record {
     plain = h.plain;
     typed = λ k os here avoid.
@@ -190,16 +190,16 @@ module _ (v : WholeUnit) (done : IsFinished v) where
   pub round-gives : (r : Ty) (line : ℕ) (a step : OptionalTree) → OptionalCharacters a → OptionalCharacters step → (body : State → Option (After TypedStatement)) → ((t : State) → t.unevaluated ≡ false → Gives ⊥ v [] U t (StatementIn v r t) (body t))
       → (s : State) → s.unevaluated ≡ false → (items : Option (After (List TypedStatement))) → Gives ⊥ v [] U s (ItemsIn v r s) items
       → Gives ⊥ v [] U s (ScopedIn r s)
-      (and_then items (λ f. and_then (optional condition a f.state) (λ c. and_then (optional valued step c.state) (λ t. and_then (leaving (body (entered t.state))) (round_made line f.value c.value t.value)))))
+      (and_then items (λ f. and_then (expression_if_any condition a f.state) (λ c. and_then (expression_if_any taken_value step c.state) (λ t. and_then (leaving (body (in_new_scope t.state))) (round_made line f.value c.value t.value)))))
   round-gives r line a step ca cs body h s ev items d =
       gives-then ⊥ v [] U s (ItemsIn v r s) (ScopedIn r s) items
-      (λ f. and_then (optional condition a f.state) (λ c. and_then (optional valued step c.state) (λ t. and_then (leaving (body (entered t.state))) (round_made line f.value c.value t.value)))) d
-      (λ f i. gives-then ⊥ v [] (U × ItemsIn v r s f) f.state (MayBeControlling f.state) (ScopedIn r s) (optional condition a f.state)
-      (λ c. and_then (optional valued step c.state) (λ t. and_then (leaving (body (entered t.state))) (round_made line f.value c.value t.value))) (maybe-controlling (U × ItemsIn v r s f) a ca f.state)
-      (λ c j. gives-then ⊥ v [] ((U × ItemsIn v r s f) × MayBeControlling f.state c) c.state (MayBeValue c.state) (ScopedIn r s) (optional valued step c.state)
-      (λ t. and_then (leaving (body (entered t.state))) (round_made line f.value c.value t.value)) (maybe-value ((U × ItemsIn v r s f) × MayBeControlling f.state c) step cs c.state)
-      (λ t m. gives-then ⊥ v [] (((U × ItemsIn v r s f) × MayBeControlling f.state c) × MayBeValue c.state t) t.state (StatementIn v r t.state) (ScopedIn r s) (leaving (body (entered t.state))) (round_made line f.value c.value t.value)
-      (inner v done r (((U × ItemsIn v r s f) × MayBeControlling f.state c) × MayBeValue c.state t) t.state (body (entered t.state)) (h (entered t.state) (m.evaluated ∙ j.evaluated ∙ i.evaluated ∙ ev)))
+      (λ f. and_then (expression_if_any condition a f.state) (λ c. and_then (expression_if_any taken_value step c.state) (λ t. and_then (leaving (body (in_new_scope t.state))) (round_made line f.value c.value t.value)))) d
+      (λ f i. gives-then ⊥ v [] (U × ItemsIn v r s f) f.state (MayBeControlling f.state) (ScopedIn r s) (expression_if_any condition a f.state)
+      (λ c. and_then (expression_if_any taken_value step c.state) (λ t. and_then (leaving (body (in_new_scope t.state))) (round_made line f.value c.value t.value))) (maybe-controlling (U × ItemsIn v r s f) a ca f.state)
+      (λ c j. gives-then ⊥ v [] ((U × ItemsIn v r s f) × MayBeControlling f.state c) c.state (MayBeValue c.state) (ScopedIn r s) (expression_if_any taken_value step c.state)
+      (λ t. and_then (leaving (body (in_new_scope t.state))) (round_made line f.value c.value t.value)) (maybe-value ((U × ItemsIn v r s f) × MayBeControlling f.state c) step cs c.state)
+      (λ t m. gives-then ⊥ v [] (((U × ItemsIn v r s f) × MayBeControlling f.state c) × MayBeValue c.state t) t.state (StatementIn v r t.state) (ScopedIn r s) (leaving (body (in_new_scope t.state))) (round_made line f.value c.value t.value)
+      (inner v done r (((U × ItemsIn v r s f) × MayBeControlling f.state c) × MayBeValue c.state t) t.state (body (in_new_scope t.state)) (h (in_new_scope t.state) (m.evaluated ∙ j.evaluated ∙ i.evaluated ∙ ev)))
       (λ b n. gives-here ⊥ v [] ((((U × ItemsIn v r s f) × MayBeControlling f.state c) × MayBeValue c.state t) × StatementIn v r t.state b) b.state (ScopedIn r s) (Some (round line f c.value t.value b.value))
       (λ y e l p g. made (round line f c.value t.value b.value) b.state (scoped f c t b p.0.0.0.1 p.0.0.1 p.0.1 p.1 i j m n) y e)))))
     where

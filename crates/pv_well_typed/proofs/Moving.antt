@@ -14,7 +14,7 @@ use Rattle.pv_typed.specs.UnitParts.{no_function, no_literal}
 use Rattle.pv_library.specs.LibraryNames.{library_named}
 use Rattle.pv_check.specs.Rows.{operand, integer_value}
 use Rattle.pv_check.specs.State.{State, Used, UsedObject, UsedFunction, PointedFunction, Meaning, ObjectName, FunctionName, TypedefOf, ConstantOf, After, Scope, give, env}
-use Rattle.pv_check.specs.Scopes.{no_scope, find, innermost, entered, left}
+use Rattle.pv_check.specs.Scopes.{no_scope, find, innermost_scope, in_new_scope, behind_scope}
 use Rattle.pv_typed.specs.Constants.{and_then, integer}
 use Rattle.pv_check.specs.Values.{value_of}
 use Rattle.pv_eval.specs.Objects.{heap_name}
@@ -37,7 +37,7 @@ then-grows es fs gs h g = (h.0 ++ g.0, g.1 ∙ ap (λ (xs : List Entry). xs ++ g
 pub record Outer (ss ts : List Scope) : Type 0 where
   pub deep : length ts ≡ length ss
   pub same : take (length ss - 1) ts ≡ take (length ss - 1) ss
-  pub finds : (n : ℕ) → is_some (find (innermost ss).names n) ≡ true → is_some (find (innermost ts).names n) ≡ true
+  pub finds : (n : ℕ) → is_some (find (innermost_scope ss).names n) ≡ true → is_some (find (innermost_scope ts).names n) ≡ true
 
 pub same-outer : (ss : List Scope) → Outer ss ss
 same-outer ss = record { deep = refl; same = refl; finds = λ n h. h }
@@ -54,16 +54,16 @@ set-there z x [] i lt = absurd (omega (arith, lt))
 set-there z x (y ∷ ys) zero lt = refl
 set-there z x (y ∷ ys) (suc i) lt = set-there z x ys i (omega (arith, lt))
 
-pub inner-set : (ss : List Scope) (x : Scope) → 0 < length ss → innermost (set ss (length ss - 1) x) ≡ x
+pub inner-set : (ss : List Scope) (x : Scope) → 0 < length ss → innermost_scope (set ss (length ss - 1) x) ≡ x
 inner-set ss x some = ap (λ k. get_or (set ss (length ss - 1) x) (k - 1) no_scope) (length-set ss (length ss - 1) x) ∙ set-there no_scope x ss (length ss - 1) (omega (arith, some))
 
 -- 6.2.1p7: a name that has a meaning in the innermost scope has one there behind it
-set-finds : (ss : List Scope) (x : Scope) → ((n : ℕ) → is_some (find (innermost ss).names n) ≡ true → is_some (find x.names n) ≡ true) → (n : ℕ) → is_some (find (innermost ss).names n) ≡ true
-    → is_some (find (innermost (set ss (length ss - 1) x)).names n) ≡ true
+set-finds : (ss : List Scope) (x : Scope) → ((n : ℕ) → is_some (find (innermost_scope ss).names n) ≡ true → is_some (find x.names n) ≡ true) → (n : ℕ) → is_some (find (innermost_scope ss).names n) ≡ true
+    → is_some (find (innermost_scope (set ss (length ss - 1) x)).names n) ≡ true
 set-finds [] x more n h = h
 set-finds (y ∷ ys) x more n h = subst (λ (z : Scope). is_some (find z.names n) ≡ true) (sym (inner-set (y ∷ ys) x (omega arith))) (more n h)
 
-pub set-outer : (ss : List Scope) (x : Scope) → ((n : ℕ) → is_some (find (innermost ss).names n) ≡ true → is_some (find x.names n) ≡ true) → Outer ss (set ss (length ss - 1) x)
+pub set-outer : (ss : List Scope) (x : Scope) → ((n : ℕ) → is_some (find (innermost_scope ss).names n) ≡ true → is_some (find x.names n) ≡ true) → Outer ss (set ss (length ss - 1) x)
 set-outer ss x more = record { deep = length-set ss (length ss - 1) x; same = take-set ss (length ss - 1) x; finds = set-finds ss x more }
 
 -- ---- 6.2.1, 6.4.5, 6.9p5: what typing keeps of what it has seen
@@ -328,7 +328,7 @@ each-take P zero xs h = tt
 each-take P (suc n) [] h = tt
 each-take P (suc n) (x ∷ xs) h = (h.0, each-take P n xs h.1)
 
-pub entered-orderly : (s : State) → Orderly s → Orderly (entered s)
+pub entered-orderly : (s : State) → Orderly s → Orderly (in_new_scope s)
 entered-orderly s h = record {
   names = each_append (AreKnownNames (length s.unit.functions)) s.scopes (no_scope ∷ []) h.names (tt, tt);
   uses = h.uses;
@@ -339,7 +339,7 @@ entered-orderly s h = record {
   apart = h.apart;
 }
 
-pub left-orderly : (t : State) → Orderly t → Orderly (left t)
+pub left-orderly : (t : State) → Orderly t → Orderly (behind_scope t)
 left-orderly t h = record { names = each-take (AreKnownNames (length t.unit.functions)) (length t.scopes - 1) t.scopes h.names; uses = h.uses; sources = h.sources; written = h.written; ended = h.ended; laid = h.laid; apart = h.apart }
 
 -- behind it the scopes are those of before
@@ -350,7 +350,7 @@ left-scopes ss ts h =
     let outer : length ts - 1 ≡ length ss = ap (λ n. n - 1) h.deep ∙ inner in
     ap (λ n. take n ts) outer ∙ subst (λ n. take n ts ≡ take n (ss ++ (no_scope ∷ []))) inner h.same ∙ take-all ss (no_scope ∷ [])
 
-pub left-moves : (F G : Type 0) (v : WholeUnit) (os : List ℕ) (s t : State) → Moves F v os (entered s) t → Moves G v os s (left t)
+pub left-moves : (F G : Type 0) (v : WholeUnit) (os : List ℕ) (s t : State) → Moves F v os (in_new_scope s) t → Moves G v os s (behind_scope t)
 left-moves F G v os s t m =
     let same = left-scopes s.scopes t.scopes m.outer in
     record {
@@ -367,7 +367,7 @@ left-moves F G v os s t m =
       older = m.older;
     }
 
-pub left-proper : (v : WholeUnit) (s t : State) → 0 < length s.scopes → Outer (entered s).scopes t.scopes → IsProperState v t → IsProperState v (left t)
+pub left-proper : (v : WholeUnit) (s t : State) → 0 < length s.scopes → Outer (in_new_scope s).scopes t.scopes → IsProperState v t → IsProperState v (behind_scope t)
 left-proper v s t some outer h =
     let same = left-scopes s.scopes t.scopes outer in
     record {

@@ -4,13 +4,13 @@ use Rattle.std.specs.Prelude.{if◌then◌else◌}
 use Rattle.pv_num.specs.declared.kinds.IntKind.{IntKind}
 use Rattle.pv_types.specs.Ty.{Ty, VoidTy, IntTy, PointerTo, ArrayOf, StructTag, UnionTag, FunctionTy, ConstOf}
 use Rattle.pv_types.specs.Layouts.{Entry, is_complete_in}
-use Rattle.pv_types.specs.Sorts.{bare}
+use Rattle.pv_types.specs.Sorts.{bare_type}
 use Rattle.pv_typed.specs.TypedTree.{TypedTree, Read, ArrayPointer, Convert, type_of, line_of, is_lvalue}
 use Rattle.pv_typed.specs.TypedUnits.{WholeUnit}
-use Rattle.pv_num.specs.Kinds.{promoted}
+use Rattle.pv_num.specs.Kinds.{promotion_of}
 use Rattle.pv_types.specs.SameTypes.{same_type as same}
 use Rattle.pv_check.specs.Sorts.{is_array}
-use Rattle.pv_check.specs.Values.{implied, read_at, value_of, converted, promotion, promoted_value}
+use Rattle.pv_check.specs.Values.{implied_node, read_at, value_of, conversion_to, promotion, promoted_value}
 use Rattle.pv_check.proofs.Same.{same_equal}
 use Rattle.pv_guards.specs.Typed.{IsTyped, IsValueType, MayConvert, HasType, HasValue, given_type}
 use Rattle.pv_well_typed.specs.Proper.{IsValueOrVoid, IsProper}
@@ -61,15 +61,15 @@ module _ (E : Type 0) (v : WholeUnit) (os : List ℕ) where
 
   -- ---- 6.3: conversions
 
-  pub converted-row : (t : Ty) (a : TypedTree) → IsOperand E v os a → (same (type_of a) t ≡ false → MayConvert (type_of a) t) → IsConverted E v os t (converted t a)
+  pub converted-row : (t : Ty) (a : TypedTree) → IsOperand E v os a → (same (type_of a) t ≡ false → MayConvert (type_of a) t) → IsConverted E v os t (conversion_to t a)
   converted-row t a h may = by (same (type_of a) t) refl
     where
-      by : (b : Bool) → same (type_of a) t ≡ b → IsConverted E v os t (if b then a else implied (line_of a) t (Convert a))
+      by : (b : Bool) → same (type_of a) t ≡ b → IsConverted E v os t (if b then a else implied_node (line_of a) t (Convert a))
       by true e = record { typed = h.typed; value = h.value; is = same_equal (type_of a) t e }
       by false e = record { typed = λ x. (h.typed x, has-value a h, may e); value = refl; is = refl }
 
   -- 6.3.1.3, 6.3.1.2: an integer
-  pub integer-converted : (k l : IntKind) (a : TypedTree) → IsOperand E v os a → type_of a ≡ IntTy k → IsConverted E v os (IntTy l) (converted (IntTy l) a)
+  pub integer-converted : (k l : IntKind) (a : TypedTree) → IsOperand E v os a → type_of a ≡ IntTy k → IsConverted E v os (IntTy l) (conversion_to (IntTy l) a)
   integer-converted k l a h e = converted-row (IntTy l) a h (λ n. subst (λ u. MayConvert u (IntTy l)) (sym e) tt)
 
   -- 6.3.1.1p2: an argument that is promoted is a value of its own type
@@ -81,8 +81,8 @@ module _ (E : Type 0) (v : WholeUnit) (os : List ℕ) where
 
       by : (t : Ty) → type_of a ≡ t → IsValueType t → IsConverted E v os (type_of (promotion a t)) (promotion a t) × IsValueType (type_of (promotion a t))
       by (IntTy k) e p =
-          let c = integer-converted k (promoted k) a h e in
-          (subst (λ u. IsConverted E v os u (converted (IntTy (promoted k)) a)) (sym c.is) c, subst IsValueType (sym c.is) tt)
+          let c = integer-converted k (promotion_of k) a h e in
+          (subst (λ u. IsConverted E v os u (conversion_to (IntTy (promotion_of k)) a)) (sym c.is) c, subst IsValueType (sym c.is) tt)
       by (PointerTo t) e p = (same-type, value)
       by (StructTag n) e p = (same-type, value)
       by (UnionTag n) e p = (same-type, value)
@@ -95,33 +95,33 @@ module _ (E : Type 0) (v : WholeUnit) (os : List ℕ) where
 
   module _ (done : IsFinished v) (es : List Entry) (more : Extends es v) where
     read-plain : (a : TypedTree) (t : Ty) → IsExpression E v os a → is_lvalue a ≡ true → type_of a ≡ t → is_array t ≡ false
-        → (x : TypedTree) → (if is_complete_in es t then Some (implied (line_of a) (bare t) (Read a)) else None) ≡ Some x → IsOperand E v os x
+        → (x : TypedTree) → (if is_complete_in es t then Some (implied_node (line_of a) (bare_type t) (Read a)) else None) ≡ Some x → IsOperand E v os x
     read-plain a t h place is plain x e = by (is_complete_in es t) refl e
       where
         proper : IsProper v t
         proper = subst (IsProper v) is h.proper
 
-        by : (b : Bool) → is_complete_in es t ≡ b → (if b then Some (implied (line_of a) (bare t) (Read a)) else None) ≡ Some x → IsOperand E v os x
+        by : (b : Bool) → is_complete_in es t ≡ b → (if b then Some (implied_node (line_of a) (bare_type t) (Read a)) else None) ≡ Some x → IsOperand E v os x
         by true c e =
-            let value : IsValueType (bare t) = held-value v es t proper c plain in
-            as-made (IsOperand E v os) (implied (line_of a) (bare t) (Read a)) x (record {
-              typed = λ i. (h.typed i, place, ap bare (sym is), sized-later v done es more (type_of a) h.proper (ap (is_complete_in es) is ∙ c), value);
+            let value : IsValueType (bare_type t) = held-value v es t proper c plain in
+            as-made (IsOperand E v os) (implied_node (line_of a) (bare_type t) (Read a)) x (record {
+              typed = λ i. (h.typed i, place, ap bare_type (sym is), sized-later v done es more (type_of a) h.proper (ap (is_complete_in es) is ∙ c), value);
               proper = proper-bare v t proper;
               value = refl;
               given = refl;
-              plain = value-or-void (bare t) value;
+              plain = value-or-void (bare_type t) value;
             }) e
         by false c e = absurd cc
 
     read-row : (a : TypedTree) (t : Ty) → IsExpression E v os a → is_lvalue a ≡ true → type_of a ≡ t → (x : TypedTree) → read_at es a t ≡ Some x → IsOperand E v os x
-    read-row a (ArrayOf t n) h place is x e = as-made (IsOperand E v os) (implied (line_of a) (PointerTo t) (ArrayPointer a)) x (record {
+    read-row a (ArrayOf t n) h place is x e = as-made (IsOperand E v os) (implied_node (line_of a) (PointerTo t) (ArrayPointer a)) x (record {
       typed = λ i. (h.typed i, place, (t, refl));
       proper = (subst (IsProper v) is h.proper).0;
       value = refl;
       given = refl;
       plain = tt;
     }) e
-    read-row a (FunctionTy t ts c) h place is x e = as-made (IsOperand E v os) (implied (line_of a) (PointerTo (FunctionTy t ts c)) (ArrayPointer a)) x (record {
+    read-row a (FunctionTy t ts c) h place is x e = as-made (IsOperand E v os) (implied_node (line_of a) (PointerTo (FunctionTy t ts c)) (ArrayPointer a)) x (record {
       typed = λ i. (h.typed i, place, (FunctionTy t ts c, refl));
       proper = subst (IsProper v) is h.proper;
       value = refl;

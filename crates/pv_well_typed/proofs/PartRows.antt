@@ -5,7 +5,7 @@ use Rattle.std.specs.Prelude.{if◌then◌else◌, option_and_then}
 use Rattle.std.specs.Int.{next_multiple_of}
 use Rattle.pv_num.specs.declared.kinds.IntKind.{IntKind}
 use Rattle.pv_num.specs.declared.kinds.IntKind.TheVariants as kind
-use Rattle.pv_types.specs.Sorts.{bare, is_scalar}
+use Rattle.pv_types.specs.Sorts.{bare_type, is_scalar}
 use Rattle.pv_types.specs.Layouts.{Entry, Named, Part, Completed, layout_in, layout_at, layouts_of, is_complete_in, struct_placed, union_placed}
 use Rattle.pv_types.specs.LayoutParts.{part_count, struct_end, union_end}
 use Rattle.pv_types.specs.Members.{completed_members}
@@ -14,7 +14,7 @@ use Rattle.pv_types.proofs.Fills.{struct_end-ge, union_end-ge}
 use Rattle.pv_types.proofs.LayoutLaws.{complete-append}
 use Rattle.pv_typed.specs.Known.{Each}
 use Rattle.pv_typed.specs.TypedUnits.{WholeUnit}
-use Rattle.pv_unit.specs.Parts.{part_number, first_member, part_in, part_at, sized, can_be_initialized, leaf_within, first_leaf}
+use Rattle.pv_unit.specs.Parts.{part_number, first_member, part_in, part_at, with_size, can_be_initialized, leaf_within, first_leaf}
 use Rattle.pv_num.specs.Kinds.{is_character_kind}
 use Rattle.pv_unit.specs.PartParts.{within, character_layer}
 use Rattle.pv_unit.specs.InitializerParts.{zero_leaf}
@@ -39,7 +39,7 @@ can-complete es (UnionTag n) h = h
 can-complete es (FunctionTy t ts c) h = h
 can-complete es (ConstOf t) h = h
 
-pub can-bare : (v : WholeUnit) (es : List Entry) (t : Ty) → IsProper v t → can_be_initialized es t ≡ true → can_be_initialized es (bare t) ≡ true
+pub can-bare : (v : WholeUnit) (es : List Entry) (t : Ty) → IsProper v t → can_be_initialized es t ≡ true → can_be_initialized es (bare_type t) ≡ true
 can-bare v es VoidTy p h = h
 can-bare v es (IntTy k) p h = h
 can-bare v es (PointerTo t) p h = h
@@ -64,7 +64,7 @@ pub can-grown : (es fs : List Entry) (t : Ty) → Grows es fs → can_be_initial
 can-grown es fs t g h = subst (λ (xs : List Entry). can_be_initialized xs t ≡ true) (sym g.1) (can-append es g.0 t h)
 
 -- 6.2.5p26: as large as without qualifiers
-pub bare-size : (es : List Entry) (t : Ty) → (layout_in es (bare t)).size ≡ (layout_in es t).size
+pub bare-size : (es : List Entry) (t : Ty) → (layout_in es (bare_type t)).size ≡ (layout_in es t).size
 bare-size es VoidTy = refl
 bare-size es (IntTy k) = refl
 bare-size es (PointerTo t) = refl
@@ -75,7 +75,7 @@ bare-size es (FunctionTy t ts c) = refl
 bare-size es (ConstOf t) = bare-size es t
 
 -- 6.7.9p22: a complete type stays as it is
-pub sized-whole : (es : List Entry) (t : Ty) (n : ℕ) → is_complete_in es t ≡ true → sized (bare t) n ≡ bare t
+pub sized-whole : (es : List Entry) (t : Ty) (n : ℕ) → is_complete_in es t ≡ true → with_size (bare_type t) n ≡ bare_type t
 sized-whole es VoidTy n h = refl
 sized-whole es (IntTy k) n h = refl
 sized-whole es (PointerTo t) n h = refl
@@ -86,11 +86,11 @@ sized-whole es (UnionTag k) n h = refl
 sized-whole es (FunctionTy t ts c) n h = refl
 sized-whole es (ConstOf t) n h = sized-whole es t n h
 
-pub sized-size : (es : List Entry) (t : Ty) (n : ℕ) → is_complete_in es t ≡ true → (layout_in es (sized (bare t) n)).size ≡ (layout_in es t).size
+pub sized-size : (es : List Entry) (t : Ty) (n : ℕ) → is_complete_in es t ≡ true → (layout_in es (with_size (bare_type t) n)).size ≡ (layout_in es t).size
 sized-size es t n h = ap (λ u. (layout_in es u).size) (sized-whole es t n h) ∙ bare-size es t
 
 -- 6.7.9p22: with more elements it is no smaller
-pub sized-more : (es : List Entry) (t : Ty) (n : ℕ) → (layout_in es (sized t n)).size ≤ (layout_in es (sized t (n + 1))).size
+pub sized-more : (es : List Entry) (t : Ty) (n : ℕ) → (layout_in es (with_size t n)).size ≤ (layout_in es (with_size t (n + 1))).size
 sized-more es (ArrayOf t None) n = omega arith
 sized-more es (ArrayOf t (Some m)) n = omega arith
 sized-more es VoidTy n = omega arith
@@ -108,7 +108,7 @@ kind-byte kind.SChar es e = refl
 kind-byte kind.UChar es e = refl
 kind-byte _ es e = absurd cc
 
-pub character-byte : (es : List Entry) (t : Ty) → character_layer (bare t) ≡ true → (layout_in es t).size ≡ 1
+pub character-byte : (es : List Entry) (t : Ty) → character_layer (bare_type t) ≡ true → (layout_in es t).size ≡ 1
 character-byte es (IntTy k) e = kind-byte k es e
 character-byte es (ConstOf t) e = character-byte es t e
 character-byte es VoidTy e = absurd cc
@@ -196,7 +196,7 @@ module _ (v : WholeUnit) (ds : List Completed) (all : Each (IsCompleted v (layou
 
   -- 6.7.9p17: the part that one of a list's initializers is for
   part-found : (t : Ty) → IsProper v t → can_be_initialized (layouts_of ds) t ≡ true → (n : ℕ) (p : Part) → part_in ds t n ≡ Some p
-      → IsPart v (layouts_of ds) (layout_in (layouts_of ds) (sized t (n + 1))).size (sized t (n + 1)) p
+      → IsPart v (layouts_of ds) (layout_in (layouts_of ds) (with_size t (n + 1))).size (with_size t (n + 1)) p
   part-found (StructTag k) q c n p e = record { found = struct-part n k q p e; whole = q }
   part-found (UnionTag k) q c n p e = record { found = union-part n k q p e; whole = q }
   part-found (ArrayOf t (Some m)) q c n p e = record { found = array-part n t m q c p e; whole = q }
@@ -209,14 +209,14 @@ module _ (v : WholeUnit) (ds : List Completed) (all : Each (IsCompleted v (layou
 
   -- the same within a part of an object
   pub part-at-found : (whole : Part) → IsProper v whole.t → can_be_initialized (layouts_of ds) whole.t ≡ true → (n : ℕ) (p : Part) → part_at ds whole n ≡ Some p
-      → IsPart v (layouts_of ds) (whole.offset + (layout_in (layouts_of ds) (sized (bare whole.t) (n + 1))).size) (sized (bare whole.t) (n + 1)) p
-  part-at-found whole q c n p e = by (part_in ds (bare whole.t) n) refl e
+      → IsPart v (layouts_of ds) (whole.offset + (layout_in (layouts_of ds) (with_size (bare_type whole.t) (n + 1))).size) (with_size (bare_type whole.t) (n + 1)) p
+  part-at-found whole q c n p e = by (part_in ds (bare_type whole.t) n) refl e
     where
-      by : (o : Option Part) → part_in ds (bare whole.t) n ≡ o → option_map (within whole) o ≡ Some p
-          → IsPart v (layouts_of ds) (whole.offset + (layout_in (layouts_of ds) (sized (bare whole.t) (n + 1))).size) (sized (bare whole.t) (n + 1)) p
+      by : (o : Option Part) → part_in ds (bare_type whole.t) n ≡ o → option_map (within whole) o ≡ Some p
+          → IsPart v (layouts_of ds) (whole.offset + (layout_in (layouts_of ds) (with_size (bare_type whole.t) (n + 1))).size) (with_size (bare_type whole.t) (n + 1)) p
       by None f e = absurd (none-found p e)
       by (Some x) f e =
-          let h = part-found (bare whole.t) (proper-bare v whole.t q) (can-bare v (layouts_of ds) whole.t q c) n x f in
+          let h = part-found (bare_type whole.t) (proper-bare v whole.t q) (can-bare v (layouts_of ds) whole.t q c) n x f in
           let w = h.found.within in
           record { found = found-as v (layouts_of ds) _ (within whole x) p (record { proper = h.found.proper; complete = h.found.complete; within = omega (arith, w) }) e; whole = h.whole }
 
@@ -239,11 +239,11 @@ module _ (v : WholeUnit) (ds : List Completed) (all : Each (IsCompleted v (layou
 
   -- 6.7.9p20, p21: of the list `{0}`, the first scalar of the first part
   pub zero-found : (whole : Part) → IsProper v whole.t → can_be_initialized (layouts_of ds) whole.t ≡ true → (p : Part) → zero_leaf ds whole ≡ Some p
-      → IsPart v (layouts_of ds) (whole.offset + (layout_in (layouts_of ds) (sized (bare whole.t) 1)).size) (sized (bare whole.t) 1) p
+      → IsPart v (layouts_of ds) (whole.offset + (layout_in (layouts_of ds) (with_size (bare_type whole.t) 1)).size) (with_size (bare_type whole.t) 1) p
   zero-found whole q c p e = by (part_at ds whole 0) refl e
     where
       by : (o : Option Part) → part_at ds whole 0 ≡ o → option_and_then (first_leaf ds) o ≡ Some p
-          → IsPart v (layouts_of ds) (whole.offset + (layout_in (layouts_of ds) (sized (bare whole.t) 1)).size) (sized (bare whole.t) 1) p
+          → IsPart v (layouts_of ds) (whole.offset + (layout_in (layouts_of ds) (with_size (bare_type whole.t) 1)).size) (with_size (bare_type whole.t) 1) p
       by None f e = absurd (none-found p e)
       by (Some x) f e =
           let h = part-at-found whole q c 0 x f in

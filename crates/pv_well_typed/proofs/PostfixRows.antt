@@ -10,8 +10,8 @@ use Rattle.pv_typed.specs.TypedTree.{TypedTree, Subscript, Member, MemberOfValue
 use Rattle.pv_typed.specs.TypedUnits.{WholeUnit, layouts}
 use Rattle.pv_check.specs.Qualified.{qualified_if}
 use Rattle.pv_check.specs.Sorts.{complete_pointed_by, is_array}
-use Rattle.pv_types.specs.Sorts.{kind_of, pointed_by, bare}
-use Rattle.pv_check.specs.Values.{written, is_modifiable}
+use Rattle.pv_types.specs.Sorts.{kind_of, pointed_by, bare_type}
+use Rattle.pv_check.specs.Values.{source_node, is_modifiable}
 use Rattle.pv_check.specs.Postfix.{element_of, subscript_of, complete_member, member_at, member_from, arrow_from, may_step, increment_of}
 use Rattle.pv_check.specs.PostfixParts.{subscript_to, arrow_at, arrow_to}
 use Rattle.pv_guards.specs.Typed.{IsSized, IsValueType, MayStep}
@@ -48,20 +48,20 @@ module _ (E : Type 0) (v : WholeUnit) (os : List ℕ) (done : IsFinished v) (es 
   to-pointer t e h p = h.proper
 
   left-element : (line : ℕ) (a b : TypedTree) → IsOperand E v os a → IsOperand E v os b → (t : Ty) → complete_pointed_by es (type_of a) ≡ Some t → is_some (kind_of (type_of b)) ≡ true
-      → (x : TypedTree) → Some (written line t (Subscript a b)) ≡ Some x → IsExpression E v os x
+      → (x : TypedTree) → Some (source_node line t (Subscript a b)) ≡ Some x → IsExpression E v os x
   left-element line a b h g t p q x e =
       let c = complete-at E v os done es more (type_of a) t h.plain h.proper p in
-      as-made (IsExpression E v os) (written line t (Subscript a b)) x (record {
+      as-made (IsExpression E v os) (source_node line t (Subscript a b)) x (record {
         typed = λ i. (h.typed i, has-value E v os a h, g.typed i, has-value E v os b g, inl (c.is, c.sized, integer-type (type_of b) g.plain q));
         proper = c.proper;
         valued = λ n. absurd cc;
       }) e
 
   right-element : (line : ℕ) (a b : TypedTree) → IsOperand E v os a → IsOperand E v os b → (t : Ty) → complete_pointed_by es (type_of b) ≡ Some t → is_some (kind_of (type_of a)) ≡ true
-      → (x : TypedTree) → Some (written line t (Subscript a b)) ≡ Some x → IsExpression E v os x
+      → (x : TypedTree) → Some (source_node line t (Subscript a b)) ≡ Some x → IsExpression E v os x
   right-element line a b h g t p q x e =
       let c = complete-at E v os done es more (type_of b) t g.plain g.proper p in
-      as-made (IsExpression E v os) (written line t (Subscript a b)) x (record {
+      as-made (IsExpression E v os) (source_node line t (Subscript a b)) x (record {
         typed = λ i. (h.typed i, has-value E v os a h, g.typed i, has-value E v os b g, inr (c.is, c.sized, integer-type (type_of a) h.plain q));
         proper = c.proper;
         valued = λ n. absurd cc;
@@ -90,7 +90,7 @@ module _ (E : Type 0) (v : WholeUnit) (os : List ℕ) (done : IsFinished v) (es 
 
   -- ---- 6.5.2.4, 6.5.3.1
 
-  step-kind : (t : Ty) → IsProper v t → (is_some (kind_of t) || is_some (complete_pointed_by es t)) ≡ true → MayStep (layouts v) (bare t)
+  step-kind : (t : Ty) → IsProper v t → (is_some (kind_of t) || is_some (complete_pointed_by es t)) ≡ true → MayStep (layouts v) (bare_type t)
   step-kind VoidTy p e = absurd cc
   step-kind (IntTy k) p e = tt
   step-kind (PointerTo t) p e = by (is_complete_in es t) refl e
@@ -107,14 +107,14 @@ module _ (E : Type 0) (v : WholeUnit) (os : List ℕ) (done : IsFinished v) (es 
   pub increment-row : (line : ℕ) (op : IncrementOperator) (a : TypedTree) → IsExpression E v os a → (x : TypedTree) → increment_of es line op a ≡ Some x → IsExpression E v os x
   increment-row line op a h x e = by (is_modifiable es a && may_step es (type_of a)) refl e
     where
-      by : (b : Bool) → (is_modifiable es a && may_step es (type_of a)) ≡ b → (if b then Some (written line (bare (type_of a)) (Increment op a)) else None) ≡ Some x → IsExpression E v os x
+      by : (b : Bool) → (is_modifiable es a && may_step es (type_of a)) ≡ b → (if b then Some (source_node line (bare_type (type_of a)) (Increment op a)) else None) ≡ Some x → IsExpression E v os x
       by true q e =
           let both = both-true (is_modifiable es a) (may_step es (type_of a)) q in
           let m = modified es a both.0 in
-          as-made (IsExpression E v os) (written line (bare (type_of a)) (Increment op a)) x (record {
+          as-made (IsExpression E v os) (source_node line (bare_type (type_of a)) (Increment op a)) x (record {
             typed = λ i. (h.typed i, m.place, refl, step-kind (type_of a) h.proper both.1, sized-later v done es more (type_of a) h.proper m.complete);
             proper = proper-bare v (type_of a) h.proper;
-            valued = λ n. (refl, value-or-void (bare (type_of a)) (held-value v es (type_of a) h.proper m.complete m.single));
+            valued = λ n. (refl, value-or-void (bare_type (type_of a)) (held-value v es (type_of a) h.proper m.complete m.single));
           }) e
       by false q e = absurd cc
 
@@ -122,22 +122,22 @@ module _ (E : Type 0) (v : WholeUnit) (os : List ℕ) (done : IsFinished v) (ds 
   -- ---- 6.5.2.3
 
   lvalue-member : (line name : ℕ) (a : TypedTree) → IsExpression E v os a → is_lvalue a ≡ true → (p : Part) → IsMemberOf v ds all name (type_of a) p
-      → (x : TypedTree) → Some (written line (qualified_if (is_const (type_of a)) p.t) (Member a p.offset)) ≡ Some x → IsExpression E v os x
-  lvalue-member line name a h place p m x e = as-made (IsExpression E v os) (written line (qualified_if (is_const (type_of a)) p.t) (Member a p.offset)) x (record {
+      → (x : TypedTree) → Some (source_node line (qualified_if (is_const (type_of a)) p.t) (Member a p.offset)) ≡ Some x → IsExpression E v os x
+  lvalue-member line name a h place p m x e = as-made (IsExpression E v os) (source_node line (qualified_if (is_const (type_of a)) p.t) (Member a p.offset)) x (record {
     typed = λ i. (h.typed i, place);
     proper = proper-qualified-if v (is_const (type_of a)) p.t m.proper (no-function (layouts_of ds) p.t m.complete);
     valued = λ n. absurd cc;
   }) e
 
   later-within : (t u : Ty) (offset : ℕ) → is_complete_in (layouts_of ds) t ≡ true → is_complete_in (layouts_of ds) u ≡ true
-      → offset + (layout_in (layouts_of ds) u).size ≤ (layout_in (layouts_of ds) t).size → offset + (layout_in (layouts v) (bare u)).size ≤ (layout_in (layouts v) t).size
+      → offset + (layout_in (layouts_of ds) u).size ≤ (layout_in (layouts_of ds) t).size → offset + (layout_in (layouts v) (bare_type u)).size ≤ (layout_in (layouts v) t).size
   later-within t u offset p q h =
       let whole : (layout_in (layouts v) t).size ≡ (layout_in (layouts_of ds) t).size = ap (λ l. l.size) (layout-later (layouts_of ds) v more t p) in
       let part : (layout_in (layouts v) u).size ≡ (layout_in (layouts_of ds) u).size = ap (λ l. l.size) (layout-later (layouts_of ds) v more u q) in
       let plain = unqualified-size u in
       omega (arith, whole, part, plain, h)
     where
-      unqualified-size : (u : Ty) → (layout_in (layouts v) (bare u)).size ≡ (layout_in (layouts v) u).size
+      unqualified-size : (u : Ty) → (layout_in (layouts v) (bare_type u)).size ≡ (layout_in (layouts v) u).size
       unqualified-size VoidTy = refl
       unqualified-size (IntTy k) = refl
       unqualified-size (PointerTo t) = refl
@@ -147,7 +147,7 @@ module _ (E : Type 0) (v : WholeUnit) (os : List ℕ) (done : IsFinished v) (ds 
       unqualified-size (FunctionTy t ts c) = refl
       unqualified-size (ConstOf t) = unqualified-size t
 
-  complete-unqualified : (u : Ty) → is_complete_in (layouts_of ds) u ≡ true → is_complete_in (layouts_of ds) (bare u) ≡ true
+  complete-unqualified : (u : Ty) → is_complete_in (layouts_of ds) u ≡ true → is_complete_in (layouts_of ds) (bare_type u) ≡ true
   complete-unqualified VoidTy e = e
   complete-unqualified (IntTy k) e = e
   complete-unqualified (PointerTo t) e = e
@@ -158,25 +158,25 @@ module _ (E : Type 0) (v : WholeUnit) (os : List ℕ) (done : IsFinished v) (ds 
   complete-unqualified (ConstOf t) e = complete-unqualified t e
 
   value-member : (line name : ℕ) (a : TypedTree) → IsExpression E v os a → is_lvalue a ≡ false → (p : Part) → IsMemberOf v ds all name (type_of a) p
-      → (x : TypedTree) → (if is_array p.t then None else Some (written line (bare p.t) (MemberOfValue a p.offset))) ≡ Some x → IsExpression E v os x
+      → (x : TypedTree) → (if is_array p.t then None else Some (source_node line (bare_type p.t) (MemberOfValue a p.offset))) ≡ Some x → IsExpression E v os x
   value-member line name a h no-place p m x e = by (is_array p.t) refl e
     where
-      by : (b : Bool) → is_array p.t ≡ b → (if b then None else Some (written line (bare p.t) (MemberOfValue a p.offset))) ≡ Some x → IsExpression E v os x
+      by : (b : Bool) → is_array p.t ≡ b → (if b then None else Some (source_node line (bare_type p.t) (MemberOfValue a p.offset))) ≡ Some x → IsExpression E v os x
       by true q e = absurd cc
       by false q e =
-          let value : IsValueType (bare p.t) = held-value v (layouts_of ds) p.t m.proper m.complete q in
+          let value : IsValueType (bare_type p.t) = held-value v (layouts_of ds) p.t m.proper m.complete q in
           let proper = proper-bare v p.t m.proper in
-          as-made (IsExpression E v os) (written line (bare p.t) (MemberOfValue a p.offset)) x (record {
+          as-made (IsExpression E v os) (source_node line (bare_type p.t) (MemberOfValue a p.offset)) x (record {
             typed = λ i. (
               h.typed i,
               ((no-place, refl), (h.valued no-place).0),
-              sized-later v done (layouts_of ds) more (bare p.t) proper (complete-unqualified p.t m.complete),
+              sized-later v done (layouts_of ds) more (bare_type p.t) proper (complete-unqualified p.t m.complete),
               value,
               composite-tag (type_of a) (h.valued no-place).1 m.composite,
               later-within (type_of a) p.t p.offset m.whole m.complete m.within,
             );
             proper = proper;
-            valued = λ n. (refl, value-or-void (bare p.t) value);
+            valued = λ n. (refl, value-or-void (bare_type p.t) value);
           }) e
 
   pub member-row : (line name : ℕ) (a : TypedTree) → IsExpression E v os a → (x : TypedTree) → member_from ds line name a ≡ Some x → IsExpression E v os x
@@ -195,7 +195,7 @@ module _ (E : Type 0) (v : WholeUnit) (os : List ℕ) (done : IsFinished v) (ds 
       found t is None q e = absurd cc
       found t is (Some p) q e =
           let m = member-found v ds all name t (subst (IsProper v) is h.proper) p q in
-          as-made (IsExpression E v os) (written line (qualified_if (is_const t) p.t) (Arrow a p.offset)) x (record {
+          as-made (IsExpression E v os) (source_node line (qualified_if (is_const t) p.t) (Arrow a p.offset)) x (record {
             typed = λ i. (t, h.typed i, has-value-as E v os a (PointerTo t) h is);
             proper = proper-qualified-if v (is_const t) p.t m.proper (no-function (layouts_of ds) p.t m.complete);
             valued = λ n. absurd cc;

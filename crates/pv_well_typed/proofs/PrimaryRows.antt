@@ -5,7 +5,7 @@ use Rattle.std.proofs.lemmas.Int.{ints}
 use Rattle.std.proofs.lemmas.Bool.Decides.{nat_tests}
 use Rattle.pv_num.specs.declared.kinds.IntKind.{IntKind}
 use Rattle.pv_num.specs.declared.kinds.IntKind.TheVariants.{Int}
-use Rattle.pv_num.specs.Kinds.{Fits, fits_of, least, greatest}
+use Rattle.pv_num.specs.Kinds.{Fits, fits_of, least_member, greatest_member}
 use Rattle.pv_types.specs.Ty.{IntTy}
 use Rattle.pv_typed.specs.Known.{Each}
 use Rattle.pv_typed.proofs.Each.{each_right}
@@ -18,7 +18,7 @@ use Rattle.pv_check.specs.Primary.{with_use, integer_of}
 use Rattle.pv_check.specs.PrimaryParts.{used_function, constant_of_kind, character_of}
 use Rattle.pv_check.specs.StringLiterals.{text_of}
 use Rattle.pv_check.specs.State.{State, ObjectName, UsedObject}
-use Rattle.pv_check.specs.Values.{written}
+use Rattle.pv_check.specs.Values.{source_node}
 use Rattle.pv_guards.specs.Typed.{IsIn, IsInScope}
 use Rattle.pv_well_typed.specs.Proper.{IsProper}
 use Rattle.pv_well_typed.specs.Later.{IsFinished, IsThere, Later, library_of}
@@ -54,8 +54,8 @@ beyond-at z (x ∷ xs) (suc i) le = beyond-at z xs i (omega (arith, le))
 
 pub fits-read : (k : IntKind) (n : ℤ) → fits_of k n ≡ true → Fits k n
 fits-read k n e =
-    let b = both-true (int_le (least k) n) (int_le n (greatest k)) e in
-    (below (least k) n b.0, below n (greatest k) b.1)
+    let b = both-true (int_le (least_member k) n) (int_le n (greatest_member k)) e in
+    (below (least_member k) n b.0, below n (greatest_member k) b.1)
   where
     below : (m n : ℤ) → int_le m n ≡ true → m ≤ℤ n
     below m n e = grind (arith, ints, nat_tests)
@@ -74,7 +74,7 @@ module _ (E : Type 0) (v : WholeUnit) (os : List ℕ) where
     where
       by : (o : Option IntKind) → kind_of_constant decimal unsigned longs (pos value) ≡ o → constant_of_kind line value o ≡ Some x → IsExpression E v os x
       by None p e = absurd cc
-      by (Some k) p e = as-made (IsExpression E v os) (written line (IntTy k) (Constant (pos value))) x (record {
+      by (Some k) p e = as-made (IsExpression E v os) (source_node line (IntTy k) (Constant (pos value))) x (record {
         typed = λ i. (k, refl, first-fits decimal unsigned longs (pos value) kinds_of_constants k p);
         proper = tt;
         valued = λ n. (refl, tt);
@@ -94,7 +94,7 @@ module _ (E : Type 0) (v : WholeUnit) (os : List ℕ) where
       by true h g = h refl
       by false h g = g refl
 
-  pub object-row : (line o : ℕ) (s : State) → IsProperState v s → Later (with_use s (UsedObject o)) v → (E → IsVisible v os (ObjectName o)) → IsExpression E v os (written line (object_at s.unit o).t (Object o))
+  pub object-row : (line o : ℕ) (s : State) → IsProperState v s → Later (with_use s (UsedObject o)) v → (E → IsVisible v os (ObjectName o)) → IsExpression E v os (source_node line (object_at s.unit o).t (Object o))
   object-row line o s good later seen = record {
     typed = λ i. in-scope o (each-last (IsThere v) s.used (UsedObject o) later.used) (seen i);
     proper = each-at (λ (x : TypedObject). IsProper v x.t) no_object s.unit.objects o tt good.unit.objects;
@@ -103,7 +103,7 @@ module _ (E : Type 0) (v : WholeUnit) (os : List ℕ) where
 
   -- a function that is pointed to, where it isn't named in the operand of sizeof
   pub function-row : (line f : ℕ) (s : State) → IsProperState v s → f < length s.unit.functions → library_of s.unit f ≡ None → (E → s.unevaluated ≡ false)
-      → Later (with_use s (used_function s.unevaluated f)) v → IsExpression E v os (written line (function_at s.unit f).t (Function f))
+      → Later (with_use s (used_function s.unevaluated f)) v → IsExpression E v os (source_node line (function_at s.unit f).t (Function f))
   function-row line f s good few none evaluated later = record {
     typed = λ i. subst (λ b. IsThere v (used_function b f)) (evaluated i) (each-last (IsThere v) s.used (used_function s.unevaluated f) later.used);
     proper = (subst (λ o. HasFunctionType v o (function_at s.unit f).t) none (good.unit.functions f few)).0;

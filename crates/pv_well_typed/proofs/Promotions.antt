@@ -3,11 +3,11 @@ use Rattle.std.proofs.Common.{Bool, true, false, arith}
 use Rattle.std.specs.Prelude.{if◌then◌else◌, nat_lt, nat_le}
 use Rattle.pv_num.specs.declared.kinds.IntKind.{IntKind}
 use Rattle.pv_num.specs.declared.kinds.IntKind.TheVariants.{Bool as BoolKind, Char, SChar, UChar, Short, UShort, Int, UInt, Long, ULong, LLong, ULLong}
-use Rattle.pv_num.specs.Kinds.{width, is_signed, rank, promoted}
+use Rattle.pv_num.specs.Kinds.{width, is_signed, rank, promotion_of}
 use Rattle.pv_num.specs.Arithmetic.{IsPromoted}
-use Rattle.pv_check.specs.Kinds.{unsigned_of, mixed, common_of, common}
+use Rattle.pv_check.specs.Kinds.{unsigned_of, mixed_kind, common_of, common_kind}
 
-pub promoted-wide : (k : IntKind) → IsPromoted (promoted k)
+pub promoted-wide : (k : IntKind) → IsPromoted (promotion_of k)
 promoted-wide BoolKind = omega arith
 promoted-wide _ = omega arith
 
@@ -29,7 +29,7 @@ either-wide : (b : Bool) (k l : IntKind) → IsPromoted k → IsPromoted l → I
 either-wide true k l h g = h
 either-wide false k l h g = g
 
-mixed-wide : (k l : IntKind) → IsPromoted k → IsPromoted l → IsPromoted (mixed k l)
+mixed-wide : (k l : IntKind) → IsPromoted k → IsPromoted l → IsPromoted (mixed_kind k l)
 mixed-wide k l h g =
     either-wide (nat_le (rank l) (rank k)) k (if nat_lt (width k) (width l) then l else unsigned_of l) h
     (either-wide (nat_lt (width k) (width l)) l (unsigned_of l) g (unsigned-wide l g))
@@ -40,5 +40,5 @@ common-of-wide false true k l h g = mixed-wide k l h g
 common-of-wide true true k l h g = either-wide (nat_lt (rank k) (rank l)) l k g h
 common-of-wide false false k l h g = either-wide (nat_lt (rank k) (rank l)) l k g h
 
-pub common-wide : (k l : IntKind) → IsPromoted (common k l)
-common-wide k l = common-of-wide (is_signed (promoted k)) (is_signed (promoted l)) (promoted k) (promoted l) (promoted-wide k) (promoted-wide l)
+pub common-wide : (k l : IntKind) → IsPromoted (common_kind k l)
+common-wide k l = common-of-wide (is_signed (promotion_of k)) (is_signed (promotion_of l)) (promotion_of k) (promotion_of l) (promoted-wide k) (promoted-wide l)

@@ -9,15 +9,15 @@ use Rattle.pv_typed.specs.Known.{Each}
 use Rattle.pv_typed.proofs.Each.{each_append, each_weaker, each_left, each_right}
 use Rattle.pv_typed.specs.TypedUnits.{WholeUnit, TypedObject, TypedFunction, object_at}
 use Rattle.pv_typed.specs.UnitParts.{no_object}
-use Rattle.pv_check.specs.Derivations.{Derivation, ByPointer, ByArray, ByFunction, Parameter as OneParameter, Signature, Steps, no_steps, with_step, with_function, nearest, parameter_types, declared_name, optional_name, derived, adjusted, with_parameter, means_none, no_void, proper, may_be_variadic}
-use Rattle.pv_check.specs.Rows.{plain}
+use Rattle.pv_check.specs.Derivations.{Derivation, ByPointer, ByArray, ByFunction, Parameter as OneParameter, Signature, Steps, no_steps, with_step, with_function, nearest_parameters, parameter_types, declared_name, optional_name, derived_type, adjustment_of, with_parameter, means_none, no_void, proper_parameters, may_be_variadic}
+use Rattle.pv_check.specs.Rows.{type_without_storage}
 use Rattle.pv_check.specs.RowParts.{by_pointer, by_array, by_function, parameter_of}
 use Rattle.pv_check.specs.Sorts.{is_array}
 use Rattle.pv_types.specs.Sorts.{is_void_in}
-use Rattle.pv_check.specs.Specifiers.{specified}
+use Rattle.pv_check.specs.Specifiers.{specification_of}
 use Rattle.pv_check.specs.SpecifierParts.{without_storage}
 use Rattle.pv_check.specs.State.{State, After, Scope, Meaning, ObjectName, give, env}
-use Rattle.pv_check.specs.Scopes.{no_scope, innermost, find, bind, entered, left}
+use Rattle.pv_check.specs.Scopes.{no_scope, innermost_scope, find, bind, in_new_scope, behind_scope}
 use Rattle.pv_typed.specs.Constants.{and_then}
 use Rattle.pv_check.specs.Typing.{specifiers, steps, optional_steps, array_size, parameters, parameter_in}
 use Rattle.pv_guards.specs.Typed.{IsIn}
@@ -87,7 +87,7 @@ once-more (n ∷ ns) o less once = (λ h. by (in-append ns (o ∷ []) n (subst (
     by (inr (inr k)) = k
 
 -- 6.7.6.3p7, p8: a parameter is no array
-adjusted-held : (t u : Ty) → adjusted t ≡ Some u → is_array u ≡ false
+adjusted-held : (t u : Ty) → adjustment_of t ≡ Some u → is_array u ≡ false
 adjusted-held (ArrayOf t n) u e = subst (λ w. is_array w ≡ false) (some-same (PointerTo t) u e) refl
 adjusted-held (FunctionTy t ts c) u e = subst (λ w. is_array w ≡ false) (some-same (PointerTo (FunctionTy t ts c)) u e) refl
 adjusted-held (ConstOf t) u e = by (is_adjusted t) e
@@ -174,7 +174,7 @@ module _ (v : WholeUnit) (os : List ℕ) (done : IsFinished v) where
   one-in : (s : State) (b : After (List OneParameter)) (n : Option (ℕ × ℕ)) (c : State) (t : Ty) → is_array t ≡ false → Moves U v os b.state c → ParametersIn v os s b → (a : After (List OneParameter)) → with_parameter b.value n c t ≡ Some a
       → ParametersIn v os s a
   one-in s b None c t held m h a e = as-parameters s (record { value = b.value ++ (record { t = t; name = None; object = None } ∷ []); state = c }) a e (with-nameless s b c t held m h)
-  one-in s b (Some (n, line)) c t held m h a e = by (is_some (find (innermost c.scopes).names n)) e
+  one-in s b (Some (n, line)) c t held m h a e = by (is_some (find (innermost_scope c.scopes).names n)) e
     where
       by : (d : Bool)
           → and_then (if d then None else Some (bind n (ObjectName (length c.unit.objects)) c)) (λ named. give (Some (b.value ++ (record { t = t; name = Some n; object = Some (length c.unit.objects) } ∷ []))) (more_object (named-object n line t) named)) ≡ Some a
@@ -186,14 +186,14 @@ module _ (v : WholeUnit) (os : List ℕ) (done : IsFinished v) where
 
   -- 6.7.6.3p1
   parameter-more : (s : State) (specs : Trees) (d : OptionalTree) (b a : After (List OneParameter)) → ParametersIn v os s b
-      → and_then (specifiers specs b.state) (λ x. and_then (plain x) (λ y. and_then (optional_steps d y.state) (parameter_of (optional_name d) y.value b.value))) ≡ Some a → ParametersIn v os s a
+      → and_then (specifiers specs b.state) (λ x. and_then (type_without_storage x) (λ y. and_then (optional_steps d y.state) (parameter_of (optional_name d) y.value b.value))) ≡ Some a → ParametersIn v os s a
   parameter-more s specs d b a h e =
-      let x = from-some (specifiers specs b.state) (λ x. and_then (plain x) (λ y. and_then (optional_steps d y.state) (parameter_of (optional_name d) y.value b.value))) a e in
-      let y = from-some (plain x.0) (λ y. and_then (optional_steps d y.state) (parameter_of (optional_name d) y.value b.value)) a x.2 in
+      let x = from-some (specifiers specs b.state) (λ x. and_then (type_without_storage x) (λ y. and_then (optional_steps d y.state) (parameter_of (optional_name d) y.value b.value))) a e in
+      let y = from-some (type_without_storage x.0) (λ y. and_then (optional_steps d y.state) (parameter_of (optional_name d) y.value b.value)) a x.2 in
       let c = from-some (optional_steps d y.0.state) (parameter_of (optional_name d) y.0.value b.value) a y.2 in
-      let t = from-some (and_then (derived true (env c.0.state) c.0.value.list y.0.value) adjusted) (with_parameter b.value (optional_name d) c.0.state) a c.2 in
-      let u = from-some (derived true (env c.0.state) c.0.value.list y.0.value) adjusted t.0 t.1 in
-      let same = (given-state (and_then (specified x.0.value) without_storage) x.0.state y.0 y.1).1 in
+      let t = from-some (and_then (derived_type true (env c.0.state) c.0.value.list y.0.value) adjustment_of) (with_parameter b.value (optional_name d) c.0.state) a c.2 in
+      let u = from-some (derived_type true (env c.0.state) c.0.value.list y.0.value) adjustment_of t.0 t.1 in
+      let same = (given-state (and_then (specification_of x.0.value) without_storage) x.0.state y.0 y.1).1 in
       let first = ((specifiers-give v os done specs b.state).held x.0 x.1).0 in
       let second = ((optional-give v os done d y.0.state).held c.0 c.1).0 in
       one-in s b (optional_name d) c.0.state t.0 (adjusted-held u.0 t.0 u.2)
@@ -250,14 +250,14 @@ module _ (v : WholeUnit) (os : List ℕ) (done : IsFinished v) where
   step-signed s w a d m h = record { moved = then-moves U v os s a.state w h.moved m; signed = λ g e. signed-later s a.state w a.value.list d g m (h.signed g e) }
 
   -- 6.2.1p4: the scope of a list
-  inner-names : (ss : List Scope) → AreVisible v os ss → Each (λ (e : ℕ × Meaning). IsVisible v os e.1) (innermost ss).names
+  inner-names : (ss : List Scope) → AreVisible v os ss → Each (λ (e : ℕ × Meaning). IsVisible v os e.1) (innermost_scope ss).names
   inner-names ss h = each-at (λ (x : Scope). Each (λ (e : ℕ × Meaning). IsVisible v os e.1) x.names) no_scope ss (length ss - 1) tt h
 
   -- the list stands for its parameters, or for none (6.7.6.3p10)
   abbrev StandsFor : List OneParameter → List OneParameter → Type 0
   StandsFor ps qs = ((qs ≡ []) × (means_none ps ≡ true)) ⊎ (qs ≡ ps)
 
-  proper-same : (c : Bool) (ps qs : List OneParameter) → proper c ps ≡ Some qs → StandsFor ps qs
+  proper-same : (c : Bool) (ps qs : List OneParameter) → proper_parameters c ps ≡ Some qs → StandsFor ps qs
   proper-same c ps qs e = by (not c && means_none ps) (no_void ps) refl e
     where
       by : (b d : Bool) → (not c && means_none ps) ≡ b → (if b then Some [] else (if d then Some ps else None)) ≡ Some qs → StandsFor ps qs
@@ -275,25 +275,25 @@ module _ (v : WholeUnit) (os : List ℕ) (done : IsFinished v) where
   none-objects s t [] e h = absurd cc
   none-objects s t (p ∷ q ∷ ps) e h = absurd cc
 
-  none-signed : (s : State) (a : After Steps) (b : After (List OneParameter)) (c : Bool) → Moves U v os s a.state → ParametersIn v os (entered a.state) b
-      → (Later (left b.state) v → IsProperState v s → IsScope v (length s.unit.functions) (innermost b.state.scopes) × Each (λ (p : OneParameter). IsProper v p.t) b.value) → (qs : List OneParameter) → StandsFor b.value qs
-      → IsSigned s (left b.state) (ByFunction (parameter_types qs) c ∷ []) (record { parameters = qs; variadic = c; scope = innermost b.state.scopes })
+  none-signed : (s : State) (a : After Steps) (b : After (List OneParameter)) (c : Bool) → Moves U v os s a.state → ParametersIn v os (in_new_scope a.state) b
+      → (Later (behind_scope b.state) v → IsProperState v s → IsScope v (length s.unit.functions) (innermost_scope b.state.scopes) × Each (λ (p : OneParameter). IsProper v p.t) b.value) → (qs : List OneParameter) → StandsFor b.value qs
+      → IsSigned s (behind_scope b.state) (ByFunction (parameter_types qs) c ∷ []) (record { parameters = qs; variadic = c; scope = innermost_scope b.state.scopes })
   none-signed s a b c m h good qs e = record {
     nearest = ([], refl);
     made = made-all qs e;
     once = once-all qs e;
     visible = λ i k. inner-names b.state.scopes (h.visible (inside qs e i) (each_append (λ (x : Scope). Each (λ (y : ℕ × Meaning). IsVisible v os y.1) x.names) a.state.scopes (no_scope ∷ []) (m.names tt v os k) (tt, tt)));
-    known = λ k. subst (λ n. AreKnownNames n (innermost b.state.scopes)) (ap (λ (fs : List TypedFunction). length fs) (h.moved.functions ∙ m.functions))
+    known = λ k. subst (λ n. AreKnownNames n (innermost_scope b.state.scopes)) (ap (λ (fs : List TypedFunction). length fs) (h.moved.functions ∙ m.functions))
         (each-at (AreKnownNames (length b.state.unit.functions)) no_scope b.state.scopes (length b.state.scopes - 1) tt (h.moved.orderly (entered-orderly a.state (m.orderly k))).names);
     good = λ l k. let z = good l k in (proper-all qs e z.1, z.0);
   }
     where
-      first : (p : OneParameter) → IsMadeIn (entered a.state) b.state p → IsMadeIn s (left b.state) p
+      first : (p : OneParameter) → IsMadeIn (in_new_scope a.state) b.state p → IsMadeIn s (behind_scope b.state) p
       first p q = record { named = q.named; held = q.held; made = λ o f. let z = q.made o f in let from = z.0 in let k = m.count in (omega (arith, from, k), z.1, z.2, z.3) }
 
-      made-all : (qs : List OneParameter) → StandsFor b.value qs → Each (IsMadeIn s (left b.state)) qs
-      made-all qs (inl q) = subst (Each (IsMadeIn s (left b.state))) (sym q.0) tt
-      made-all qs (inr q) = subst (Each (IsMadeIn s (left b.state))) (sym q) (each_weaker (IsMadeIn (entered a.state) b.state) (IsMadeIn s (left b.state)) first b.value h.made)
+      made-all : (qs : List OneParameter) → StandsFor b.value qs → Each (IsMadeIn s (behind_scope b.state)) qs
+      made-all qs (inl q) = subst (Each (IsMadeIn s (behind_scope b.state))) (sym q.0) tt
+      made-all qs (inr q) = subst (Each (IsMadeIn s (behind_scope b.state))) (sym q) (each_weaker (IsMadeIn (in_new_scope a.state) b.state) (IsMadeIn s (behind_scope b.state)) first b.value h.made)
 
       once-all : (qs : List OneParameter) → StandsFor b.value qs → AreNew (objects-of qs) []
       once-all qs (inl q) = subst (λ ps. AreNew (objects-of ps) []) (sym q.0) tt
@@ -304,44 +304,44 @@ module _ (v : WholeUnit) (os : List ℕ) (done : IsFinished v) where
       proper-all qs (inr q) k = subst (Each (λ (p : OneParameter). IsProper v p.t)) (sym q) k
 
       inside : (qs : List OneParameter) → StandsFor b.value qs → AreIn (objects-of qs) os → AreIn (objects-of b.value) os
-      inside qs (inl q) i = subst (λ ns. AreIn ns os) (sym (none-objects (entered a.state) b.state b.value q.1 h.made)) tt
+      inside qs (inl q) i = subst (λ ns. AreIn ns os) (sym (none-objects (in_new_scope a.state) b.state b.value q.1 h.made)) tt
       inside qs (inr q) i = subst (λ ps. AreIn (objects-of ps) os) q i
 
   -- 6.7.6.3p5: a list of parameters
-  list-signed : (s : State) (a : After Steps) (b : After (List OneParameter)) (c : Bool) → SignedIn s a → ParametersIn v os (entered a.state) b
-      → (Later (left b.state) v → IsProperState v s → IsScope v (length s.unit.functions) (innermost b.state.scopes) × Each (λ (p : OneParameter). IsProper v p.t) b.value)
+  list-signed : (s : State) (a : After Steps) (b : After (List OneParameter)) (c : Bool) → SignedIn s a → ParametersIn v os (in_new_scope a.state) b
+      → (Later (behind_scope b.state) v → IsProperState v s → IsScope v (length s.unit.functions) (innermost_scope b.state.scopes) × Each (λ (p : OneParameter). IsProper v p.t) b.value)
       → (x : After Steps) → by_function c a.value b ≡ Some x → SignedIn s x
-  list-signed s a b c h k good x e = by (proper c b.value) refl e
+  list-signed s a b c h k good x e = by (proper_parameters c b.value) refl e
     where
-      last : Moves U v os a.state (left b.state)
+      last : Moves U v os a.state (behind_scope b.state)
       last = left-moves ⊥ U v os a.state b.state k.moved
 
       of : (qs : List OneParameter) → StandsFor b.value qs → (ds : List Derivation) (old : Option Signature)
-          → ((g : Signature) → old ≡ Some g → IsSigned s a.state ds g) → (g : Signature) → nearest ds old (record { parameters = qs; variadic = c; scope = innermost b.state.scopes }) ≡ Some g
-          → IsSigned s (left b.state) (ds ++ (ByFunction (parameter_types qs) c ∷ [])) g
+          → ((g : Signature) → old ≡ Some g → IsSigned s a.state ds g) → (g : Signature) → nearest_parameters ds old (record { parameters = qs; variadic = c; scope = innermost_scope b.state.scopes }) ≡ Some g
+          → IsSigned s (behind_scope b.state) (ds ++ (ByFunction (parameter_types qs) c ∷ [])) g
       of qs f [] old before g e =
-          subst (λ z. IsSigned s (left b.state) (ByFunction (parameter_types qs) c ∷ []) z) (some-same (record { parameters = qs; variadic = c; scope = innermost b.state.scopes }) g e) (none-signed s a b c h.moved k good qs f)
-      of qs f (d ∷ ds) old before g e = signed-later s a.state (left b.state) (d ∷ ds) (ByFunction (parameter_types qs) c) g last (before g e)
+          subst (λ z. IsSigned s (behind_scope b.state) (ByFunction (parameter_types qs) c ∷ []) z) (some-same (record { parameters = qs; variadic = c; scope = innermost_scope b.state.scopes }) g e) (none-signed s a b c h.moved k good qs f)
+      of qs f (d ∷ ds) old before g e = signed-later s a.state (behind_scope b.state) (d ∷ ds) (ByFunction (parameter_types qs) c) g last (before g e)
 
-      by : (o : Option (List OneParameter)) → proper c b.value ≡ o
-          → and_then (and_then o (λ ps. give (Some (record { parameters = ps; variadic = c; scope = innermost b.state.scopes })) (left b.state))) (λ g. give (Some (with_function a.value g.value)) g.state) ≡ Some x → SignedIn s x
+      by : (o : Option (List OneParameter)) → proper_parameters c b.value ≡ o
+          → and_then (and_then o (λ ps. give (Some (record { parameters = ps; variadic = c; scope = innermost_scope b.state.scopes })) (behind_scope b.state))) (λ g. give (Some (with_function a.value g.value)) g.state) ≡ Some x → SignedIn s x
       by None q e = absurd cc
       by (Some qs) q e =
-          as-signed s (record { value = with_function a.value (record { parameters = qs; variadic = c; scope = innermost b.state.scopes }); state = left b.state }) x e (record {
-            moved = then-moves U v os s a.state (left b.state) h.moved last;
+          as-signed s (record { value = with_function a.value (record { parameters = qs; variadic = c; scope = innermost_scope b.state.scopes }); state = behind_scope b.state }) x e (record {
+            moved = then-moves U v os s a.state (behind_scope b.state) h.moved last;
             signed = of qs (proper-same c b.value qs q) a.value.list a.value.signature h.signed;
           })
 
   -- what a list leaves is as declarations make it
-  list-good : (d : DeclaratorTree) (ps : Trees) (s : State) (a : After Steps) (b : After (List OneParameter)) → steps d s ≡ Some a → Moves U v os s a.state → parameters ps (entered a.state) ≡ Some b
-      → Later (left b.state) v → IsProperState v s → IsScope v (length s.unit.functions) (innermost b.state.scopes) × Each (λ (p : OneParameter). IsProper v p.t) b.value
+  list-good : (d : DeclaratorTree) (ps : Trees) (s : State) (a : After Steps) (b : After (List OneParameter)) → steps d s ≡ Some a → Moves U v os s a.state → parameters ps (in_new_scope a.state) ≡ Some b
+      → Later (behind_scope b.state) v → IsProperState v s → IsScope v (length s.unit.functions) (innermost_scope b.state.scopes) × Each (λ (p : OneParameter). IsProper v p.t) b.value
   list-good d ps s a b e m f l g =
-      let r = (parameters-give v os done ps (entered a.state)).held b f in
+      let r = (parameters-give v os done ps (in_new_scope a.state)).held b f in
       let later : Later b.state v = record { unit = l.unit; used = l.used } in
       let before : Later a.state v = let k = r.0.later later in record { unit = k.unit; used = k.used } in
       let here = ((steps-give v os done d s).held a e).1 before tt g in
       let z = r.1 later (inner-file a.state here.0.some) (entered-proper v a.state here.0) in (
-        subst (λ n. IsScope v n (innermost b.state.scopes)) (ap (λ (fs : List TypedFunction). length fs) (r.0.functions ∙ m.functions)) (inner-scope v (length b.state.unit.functions) b.state.scopes z.0.scopes),
+        subst (λ n. IsScope v n (innermost_scope b.state.scopes)) (ap (λ (fs : List TypedFunction). length fs) (r.0.functions ∙ m.functions)) (inner-scope v (length b.state.unit.functions) b.state.scopes z.0.scopes),
         z.1,
       )
 
@@ -359,13 +359,13 @@ module _ (v : WholeUnit) (os : List ℕ) (done : IsFinished v) where
       (step-signed s n.0.state b.0 (ByArray n.0.value) ((size-gives v os done size b.0.state).held n.0 n.1).0 (steps-signed d m q s b.0 b.1))
   steps-signed (FunctionDeclarator line d ps c) m q s a e = by (steps-signed d m q s) (may_be_variadic c d s) e
     where
-      by : ((b : After Steps) → steps d s ≡ Some b → SignedIn s b) → (z : Bool) → (if z then and_then (steps d s) (λ b. and_then (parameters ps (entered b.state)) (by_function c b.value)) else None) ≡ Some a → SignedIn s a
+      by : ((b : After Steps) → steps d s ≡ Some b → SignedIn s b) → (z : Bool) → (if z then and_then (steps d s) (λ b. and_then (parameters ps (in_new_scope b.state)) (by_function c b.value)) else None) ≡ Some a → SignedIn s a
       by inner false f = absurd cc
       by inner true f =
-          let b = from-some (steps d s) (λ b. and_then (parameters ps (entered b.state)) (by_function c b.value)) a f in
-          let k = from-some (parameters ps (entered b.0.state)) (by_function c b.0.value) a b.2 in
+          let b = from-some (steps d s) (λ b. and_then (parameters ps (in_new_scope b.state)) (by_function c b.value)) a f in
+          let k = from-some (parameters ps (in_new_scope b.0.state)) (by_function c b.0.value) a b.2 in
           let h = inner b.0 b.1 in
-          list-signed s b.0 k.0 c h (parameters-in ps (entered b.0.state) k.0 k.1) (λ l g. list-good d ps s b.0 k.0 b.1 h.moved k.1 l g) a k.2
+          list-signed s b.0 k.0 c h (parameters-in ps (in_new_scope b.0.state) k.0 k.1) (λ l g. list-good d ps s b.0 k.0 b.1 h.moved k.1 l g) a k.2
   steps-signed (AbstractParen line d) m q s a e = absurd cc
   steps-signed (AbstractPointer line consts d) m q s a e = absurd cc
   steps-signed (AbstractArray line d size) m q s a e = absurd cc

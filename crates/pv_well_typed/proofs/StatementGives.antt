@@ -8,14 +8,14 @@ use Rattle.pv_typed.specs.TypedStatement as typed
 use Rattle.pv_typed.specs.TypedStatement.{TypedStatement}
 use Rattle.pv_typed.specs.TypedUnits.{WholeUnit, object_at}
 use Rattle.pv_check.specs.State.{State, After, give}
-use Rattle.pv_check.specs.Scopes.{entered, left}
+use Rattle.pv_check.specs.Scopes.{in_new_scope, behind_scope}
 use Rattle.pv_typed.specs.Constants.{and_then}
 use Rattle.pv_unit.specs.Blocks.{Reached, block_declaration}
-use Rattle.pv_unit.specs.Statements.{Around, in_loop, Label, typed_labels, under, reached, leaving, block_of}
+use Rattle.pv_unit.specs.Statements.{Around, in_loop, Label, typed_labels, under, reached_declarations, leaving, block_of}
 use Rattle.pv_unit.specs.StatementParts.{in_switch, automatic_alone}
 use Rattle.pv_unit.specs.TypedStatements.{Body, if_automatic, typed_statement, typed_items, typed_item, switch_block, switch_items, switch_item}
 use Rattle.pv_unit.specs.Made.{block_made, with_reached, declared_item, with_statement, body_reached, body_with}
-use Rattle.pv_unit.specs.ValueRules.{initialized}
+use Rattle.pv_unit.specs.ValueRules.{typed_initializer}
 use Rattle.pv_eval.specs.Objects.{heap_name}
 use Rattle.pv_well_typed.proofs.SourceCharacters.{DeclarationCharacters, InitializerCharacters, StatementCharacters, TreeCharacters, TreesCharacters}
 use Rattle.pv_well_typed.specs.Later.{IsFinished}
@@ -30,7 +30,7 @@ use Rattle.pv_well_typed.proofs.LoopRows.{Returns, any-given, expression-gives, 
 use Rattle.pv_well_typed.proofs.SwitchRows.{KeepsNames, items_in, BlockIn, labels-give, labelled-statement, switch-block-gives, switch-gives}
 
 module _ (v : WholeUnit) (done : IsFinished v) (apart : (o : ℕ) → (object_at v o).name ≢ heap_name)
-    (initial : (lasting : Bool) (t : Ty) (i : InitializerTree) (s : State) → InitializerCharacters i → s.unevaluated ≡ false → Gives ⊥ v [] (IsProper v t) s (GivenIn v lasting t s) (initialized lasting t i s)) where
+    (initial : (lasting : Bool) (t : Ty) (i : InitializerTree) (s : State) → InitializerCharacters i → s.unevaluated ≡ false → Gives ⊥ v [] (IsProper v t) s (GivenIn v lasting t s) (typed_initializer lasting t i s)) where
   -- ---- items of a block
 
   no-items : (r : Ty) (s : State) → ItemsIn v r s (record { value = []; state = s })
@@ -41,9 +41,9 @@ module _ (v : WholeUnit) (done : IsFinished v) (apart : (o : ℕ) → (object_at
   declaration-items r d s l c ev m =
       gives-then ⊥ v [] (U × ItemsIn v r s l) l.state (ReachedIn v done apart initial l.state) (ItemsIn v r s) (block_declaration d l.state) (with_reached l.value)
       (any-given v (U × ItemsIn v r s l) l.state (ReachedIn v done apart initial l.state) (block_declaration d l.state) (declaration-gives v done apart initial d l.state c ev))
-      (λ x n. gives-here ⊥ v [] ((U × ItemsIn v r s l) × ReachedIn v done apart initial l.state x) x.state (ItemsIn v r s) (Some (l.value ++ reached x.value))
-      (λ y e k p g. as-made (λ xs. ItemsIn v r s (record { value = xs; state = x.state })) (l.value ++ reached x.value) y
-      (joined-items v done r s l (record { value = reached x.value; state = x.state }) m n p.0.1 (reached-items v done apart initial r l.state x p.1)) e))
+      (λ x n. gives-here ⊥ v [] ((U × ItemsIn v r s l) × ReachedIn v done apart initial l.state x) x.state (ItemsIn v r s) (Some (l.value ++ reached_declarations x.value))
+      (λ y e k p g. as-made (λ xs. ItemsIn v r s (record { value = xs; state = x.state })) (l.value ++ reached_declarations x.value) y
+      (joined-items v done r s l (record { value = reached_declarations x.value; state = x.state }) m n p.0.1 (reached-items v done apart initial r l.state x p.1)) e))
 
   -- 6.8.2p1: a statement
   statement-items : (r : Ty) (s : State) (l : After (List TypedStatement)) (o : Option (After TypedStatement)) → Moves ⊥ v [] s l.state → Gives ⊥ v [] U l.state (StatementIn v r l.state) o
@@ -59,19 +59,19 @@ module _ (v : WholeUnit) (done : IsFinished v) (apart : (o : ℕ) → (object_at
   first-items r d s c ev =
       gives-then ⊥ v [] U s (ReachedIn v done apart initial s) (ItemsIn v r s) (block_declaration d s) if_automatic (declaration-gives v done apart initial d s c ev) (λ x m. by x (automatic_alone x.state))
     where
-      by : (x : After (List Reached)) (b : Bool) → Gives ⊥ v [] (U × ReachedIn v done apart initial s x) x.state (ItemsIn v r s) (if b then give (Some (reached x.value)) x.state else None)
+      by : (x : After (List Reached)) (b : Bool) → Gives ⊥ v [] (U × ReachedIn v done apart initial s x) x.state (ItemsIn v r s) (if b then give (Some (reached_declarations x.value)) x.state else None)
       by x false = gives-none ⊥ v [] (U × ReachedIn v done apart initial s x) x.state (ItemsIn v r s)
       by x true =
-          gives-here ⊥ v [] (U × ReachedIn v done apart initial s x) x.state (ItemsIn v r s) (Some (reached x.value))
-          (λ y e k p g. as-made (λ xs. ItemsIn v r s (record { value = xs; state = x.state })) (reached x.value) y (reached-items v done apart initial r s x p.1) e)
+          gives-here ⊥ v [] (U × ReachedIn v done apart initial s x) x.state (ItemsIn v r s) (Some (reached_declarations x.value))
+          (λ y e k p g. as-made (λ xs. ItemsIn v r s (record { value = xs; state = x.state })) (reached_declarations x.value) y (reached-items v done apart initial r s x p.1) e)
 
   -- 6.8.2: a block
-  block-gives : (r : Ty) (line : ℕ) (s : State) (items : Option (After (List TypedStatement))) → Gives ⊥ v [] U (entered s) (ItemsIn v r (entered s)) items
+  block-gives : (r : Ty) (line : ℕ) (s : State) (items : Option (After (List TypedStatement))) → Gives ⊥ v [] U (in_new_scope s) (ItemsIn v r (in_new_scope s)) items
       → Gives ⊥ v [] U s (StatementIn v r s) (leaving (and_then items (block_made line)))
   block-gives r line s None h = gives-none ⊥ v [] U s (StatementIn v r s)
   block-gives r line s (Some x) h =
       let q = h.held x refl in
-      gives-some ⊥ v [] U s (StatementIn v r s) (record { value = block_of line x.value; state = left x.state }) (left-moves ⊥ ⊥ v [] s x.state q.0)
+      gives-some ⊥ v [] U s (StatementIn v r s) (record { value = block_of line x.value; state = behind_scope x.state }) (left-moves ⊥ ⊥ v [] s x.state q.0)
       (λ l p g.
       let z = q.1 (record { unit = l.unit; used = l.used }) p (entered-proper v s g) in
       (left-proper v s x.state g.some q.0.outer z.0, block-typed v done r line s x q.0.outer z.1, z.2))
@@ -86,9 +86,9 @@ module _ (v : WholeUnit) (done : IsFinished v) (apart : (o : ℕ) → (object_at
   declaration-body r d s x c ev m =
       gives-then ⊥ v [] (U × BodyIn r s x) x.state (ReachedIn v done apart initial x.state) (BodyIn r s) (block_declaration d x.state) (body_reached x.value)
       (any-given v (U × BodyIn r s x) x.state (ReachedIn v done apart initial x.state) (block_declaration d x.state) (declaration-gives v done apart initial d x.state c ev))
-      (λ z n. gives-here ⊥ v [] ((U × BodyIn r s x) × ReachedIn v done apart initial x.state z) z.state (BodyIn r s) (Some (record x.value { items = x.value.items ++ reached z.value }))
-      (λ y e k p g. as-made (λ (b : Body). ItemsIn v r s (record { value = b.items; state = z.state })) (record x.value { items = x.value.items ++ reached z.value }) y
-      (joined-items v done r s (items_in x) (record { value = reached z.value; state = z.state }) m n p.0.1 (reached-items v done apart initial r x.state z p.1)) e))
+      (λ z n. gives-here ⊥ v [] ((U × BodyIn r s x) × ReachedIn v done apart initial x.state z) z.state (BodyIn r s) (Some (record x.value { items = x.value.items ++ reached_declarations z.value }))
+      (λ y e k p g. as-made (λ (b : Body). ItemsIn v r s (record { value = b.items; state = z.state })) (record x.value { items = x.value.items ++ reached_declarations z.value }) y
+      (joined-items v done r s (items_in x) (record { value = reached_declarations z.value; state = z.state }) m n p.0.1 (reached-items v done apart initial r x.state z p.1)) e))
 
   -- 6.8.1p1: a statement, perhaps under labels
   statement-body : (P : Type 0) (r : Ty) (all own : List Label) (s t : State) (x : After Body) (o : Option (After TypedStatement)) → (P → BodyIn r s x) → Moves ⊥ v [] s x.state → Moves ⊥ v [] x.state t
@@ -118,20 +118,20 @@ module _ (v : WholeUnit) (done : IsFinished v) (apart : (o : ℕ) → (object_at
 
   mutual
     pub statement-gives : (w : Around) (r : Ty) → Returns w.result r → (b : StatementTree) → StatementCharacters b → (s : State) → s.unevaluated ≡ false → Gives ⊥ v [] U s (StatementIn v r s) (typed_statement w b s)
-    statement-gives w r k (Block line items) c s ev = block-gives r line s (typed_items w items (entered s)) (items-give w r k items c (entered s) ev)
+    statement-gives w r k (Block line items) c s ev = block-gives r line s (typed_items w items (in_new_scope s)) (items-give w r k items c (in_new_scope s) ev)
     statement-gives w r k (ExpressionStatement line a) c s ev = expression-gives v done r line a c s
-    statement-gives w r k (If line a body) c s ev = inner v done r U s _ (if-gives v done r line a c.0 (typed_statement w body) (statement-gives w r k body c.1) (entered s) ev)
+    statement-gives w r k (If line a body) c s ev = inner v done r U s _ (if-gives v done r line a c.0 (typed_statement w body) (statement-gives w r k body c.1) (in_new_scope s) ev)
     statement-gives w r k (IfElse line a body other) c s ev =
-        inner v done r U s _ (else-gives v done r line a c.0 (typed_statement w body) (typed_statement w other) (statement-gives w r k body c.1) (statement-gives w r k other c.2) (entered s) ev)
-    statement-gives w r k (While line a body) c s ev = inner v done r U s _ (while-gives v done r line a c.0 (typed_statement (in_loop w) body) (statement-gives (in_loop w) r k body c.1) (entered s) ev)
-    statement-gives w r k (DoWhile line body a) c s ev = inner v done r U s _ (do-gives v done r line a c.1 (typed_statement (in_loop w) body) (statement-gives (in_loop w) r k body c.0) (entered s) ev)
+        inner v done r U s _ (else-gives v done r line a c.0 (typed_statement w body) (typed_statement w other) (statement-gives w r k body c.1) (statement-gives w r k other c.2) (in_new_scope s) ev)
+    statement-gives w r k (While line a body) c s ev = inner v done r U s _ (while-gives v done r line a c.0 (typed_statement (in_loop w) body) (statement-gives (in_loop w) r k body c.1) (in_new_scope s) ev)
+    statement-gives w r k (DoWhile line body a) c s ev = inner v done r U s _ (do-gives v done r line a c.1 (typed_statement (in_loop w) body) (statement-gives (in_loop w) r k body c.0) (in_new_scope s) ev)
     statement-gives w r k (For line first a step body) c s ev =
-        inner v done r U s _ (for-gives v done r line first a step c.0 c.1 c.2 (typed_statement (in_loop w) body) (statement-gives (in_loop w) r k body c.3) (entered s) ev)
+        inner v done r U s _ (for-gives v done r line first a step c.0 c.1 c.2 (typed_statement (in_loop w) body) (statement-gives (in_loop w) r k body c.3) (in_new_scope s) ev)
     statement-gives w r k (ForDeclaration line d a step body) c s ev =
-        leaving-gives v done s (ScopedIn v done r (entered s)) (StatementIn v r s) _ (λ x outer q. scoped-left v done r s x outer q)
-        (round-gives v done r line a step c.1 c.2 (typed_statement (in_loop w) body) (statement-gives (in_loop w) r k body c.3) (entered s) ev (and_then (block_declaration d (entered s)) if_automatic) (first-items r d (entered s) c.0 ev))
+        leaving-gives v done s (ScopedIn v done r (in_new_scope s)) (StatementIn v r s) _ (λ x outer q. scoped-left v done r s x outer q)
+        (round-gives v done r line a step c.1 c.2 (typed_statement (in_loop w) body) (statement-gives (in_loop w) r k body c.3) (in_new_scope s) ev (and_then (block_declaration d (in_new_scope s)) if_automatic) (first-items r d (in_new_scope s) c.0 ev))
     statement-gives w r k (Switch line a body) c s ev =
-        inner v done r U s _ (switch-gives v done r line a c.0 (λ j. switch_block w j body) (λ j. switch-gives-block w r k j body c.1) (entered s) ev)
+        inner v done r U s _ (switch-gives v done r line a c.0 (λ j. switch_block w j body) (λ j. switch-gives-block w r k j body c.1) (in_new_scope s) ev)
     statement-gives w r k (Break line) c s ev = jump-gives v done r w.breaks (typed.Break line) refl (λ os. tt) s
     statement-gives w r k (Continue line) c s ev = jump-gives v done r w.continues (typed.Continue line) refl (λ os. tt) s
     statement-gives w r k (Return line a) c s ev = returned-gives v done w.result r k line a c s
@@ -154,7 +154,7 @@ module _ (v : WholeUnit) (done : IsFinished v) (apart : (o : ℕ) → (object_at
     item-gives w r k (OfInitializer x) c s l ev m = gives-none ⊥ v [] (U × ItemsIn v r s l) l.state (ItemsIn v r s)
 
     pub switch-gives-block : (w : Around) (r : Ty) → Returns w.result r → (j : IntKind) (b : StatementTree) → StatementCharacters b → (s : State) → s.unevaluated ≡ false → Gives ⊥ v [] U s (BlockIn v done r s) (switch_block w j b s)
-    switch-gives-block w r k j (SwitchBlock line items) c s ev = switch-block-gives v done r line s (switch_items (in_switch w) j items (entered s)) (switch-items-give (in_switch w) r k j items c (entered s) ev)
+    switch-gives-block w r k j (SwitchBlock line items) c s ev = switch-block-gives v done r line s (switch_items (in_switch w) j items (in_new_scope s)) (switch-items-give (in_switch w) r k j items c (in_new_scope s) ev)
     switch-gives-block w r k j _ c s ev = gives-none ⊥ v [] U s (BlockIn v done r s)
 
     pub switch-items-give : (w : Around) (r : Ty) → Returns w.result r → (j : IntKind) (xs : Trees) → TreesCharacters xs → (s : State) → s.unevaluated ≡ false → Gives ⊥ v [] U s (BodyIn r s) (switch_items w j xs s)

@@ -7,14 +7,14 @@ use Rattle.pv_tree.specs.Syntax.{ExpressionTree, OptionalTree, Absent, Present, 
 use Rattle.pv_types.specs.Ty.{Ty, VoidTy, IntTy, PointerTo, ArrayOf, StructTag, UnionTag, FunctionTy, ConstOf}
 use Rattle.pv_typed.specs.TypedTree.{TypedTree, type_of}
 use Rattle.pv_typed.specs.TypedUnits.{WholeUnit}
-use Rattle.pv_num.specs.Kinds.{promoted}
+use Rattle.pv_num.specs.Kinds.{promotion_of}
 use Rattle.pv_check.specs.Rows.{operand}
-use Rattle.pv_types.specs.Sorts.{kind_of, is_scalar, is_void_in, bare, is_void as is_none}
+use Rattle.pv_types.specs.Sorts.{kind_of, is_scalar, is_void_in, bare_type, is_void as is_none}
 use Rattle.pv_check.specs.State.{State, After, give}
 use Rattle.pv_typed.specs.Constants.{and_then}
 use Rattle.pv_check.specs.Typing.{types}
 use Rattle.pv_check.specs.Values.{promotion, promoted_value}
-use Rattle.pv_unit.specs.Statements.{valued, condition, optional, Switched, switched}
+use Rattle.pv_unit.specs.Statements.{taken_value, condition, expression_if_any, Switched, switch_value}
 use Rattle.pv_unit.specs.StatementParts.{if_scalar, some_value, switched_by}
 use Rattle.pv_guards.specs.Typed.{IsTyped, HasType}
 use Rattle.pv_guards.specs.TypedStatements.{IsCondition}
@@ -38,7 +38,7 @@ abbrev pub Behind : {A : Type 0} → WholeUnit → State → (List ℕ → A →
 Behind v s R a = (os : List ℕ) → Here v os s → R os a.value × Here v os a.state
 
 -- 6.8.6.4p1: `void` in the words of both crates
-pub void-none : (t : Ty) → is_void_in (bare t) ≡ true → is_none t ≡ true
+pub void-none : (t : Ty) → is_void_in (bare_type t) ≡ true → is_none t ≡ true
 void-none VoidTy e = refl
 void-none (IntTy k) e = absurd cc
 void-none (PointerTo t) e = absurd cc
@@ -55,7 +55,7 @@ IsMaybe R os (Some x) = R os x
 
 module _ (v : WholeUnit) (done : IsFinished v) where
   -- 6.3.2.1p2: an expression, and its value taken
-  pub valued-everywhere : (e : ExpressionTree) → HasCharacters e → (s : State) → Gives U v [] U s (Behind v s (λ os x. IsOperand U v os x)) (valued e s)
+  pub valued-everywhere : (e : ExpressionTree) → HasCharacters e → (s : State) → Gives U v [] U s (Behind v s (λ os x. IsOperand U v os x)) (taken_value e s)
   valued-everywhere e chars s = record { held = λ a q. next a q }
     where
       next : (a : After TypedTree) → operand (types e s) ≡ Some a → Moves U v [] s a.state × (Later a.state v → U → IsProperState v s → IsProperState v a.state × Behind v s (λ os x. IsOperand U v os x) a × HasMade v s a.state)
@@ -72,14 +72,14 @@ module _ (v : WholeUnit) (done : IsFinished v) where
                 ),
           )
 
-  pub valued-gives : (e : ExpressionTree) → HasCharacters e → (s : State) → Gives ⊥ v [] U s (Behind v s (λ os x. IsOperand U v os x)) (valued e s)
+  pub valued-gives : (e : ExpressionTree) → HasCharacters e → (s : State) → Gives ⊥ v [] U s (Behind v s (λ os x. IsOperand U v os x)) (taken_value e s)
   valued-gives e chars s =
-      gives-weaker U ⊥ U U v [] s (Behind v s (λ os x. IsOperand U v os x)) (Behind v s (λ os x. IsOperand U v os x)) (valued e s) (λ f. absurd f) (λ p. p) (λ a q. q) (valued-everywhere e chars s)
+      gives-weaker U ⊥ U U v [] s (Behind v s (λ os x. IsOperand U v os x)) (Behind v s (λ os x. IsOperand U v os x)) (taken_value e s) (λ f. absurd f) (λ p. p) (λ a q. q) (valued-everywhere e chars s)
 
   -- 6.8.4.1p1, 6.8.5p2: a condition
   pub condition-gives : (e : ExpressionTree) → HasCharacters e → (s : State) → Gives ⊥ v [] U s (Behind v s (λ os x. IsCondition v os x)) (condition e s)
   condition-gives e chars s =
-      gives-then ⊥ v [] U s (Behind v s (λ os x. IsOperand U v os x)) (Behind v s (λ os x. IsCondition v os x)) (valued e s) if_scalar (valued-gives e chars s)
+      gives-then ⊥ v [] U s (Behind v s (λ os x. IsOperand U v os x)) (Behind v s (λ os x. IsCondition v os x)) (taken_value e s) if_scalar (valued-gives e chars s)
       (λ a m. gives-if ⊥ v [] (U × Behind v s (λ os x. IsOperand U v os x) a) a.state (Behind v s (λ os x. IsCondition v os x)) (is_scalar (type_of a.value)) (Some a)
       (λ e. gives-some ⊥ v [] (U × Behind v s (λ os x. IsOperand U v os x) a) a.state (Behind v s (λ os x. IsCondition v os x)) a (same-moves ⊥ v [] a.state)
       (λ l p g. (g, λ os h. let z = p.1 os h in ((z.0.typed tt, has-value U v os a.value z.0, scalar-type (type_of a.value) z.0.plain e), z.1), none-made v a.state a.state refl))))
@@ -87,7 +87,7 @@ module _ (v : WholeUnit) (done : IsFinished v) where
   -- 6.8.3p3, 6.8.5.3p2: an expression that may be left out
   pub optional-gives : (R : List ℕ → TypedTree → Type 0) (typed : ExpressionTree → State → Option (After TypedTree)) (C : ExpressionTree → Type 0)
       → ((e : ExpressionTree) → C e → (s : State) → Gives ⊥ v [] U s (Behind v s R) (typed e s)) → (o : OptionalTree) → ((e : ExpressionTree) → o ≡ Present (OfExpression e) → C e) → (s : State)
-      → Gives ⊥ v [] U s (Behind v s (IsMaybe R)) (optional typed o s)
+      → Gives ⊥ v [] U s (Behind v s (IsMaybe R)) (expression_if_any typed o s)
   optional-gives R typed C h Absent c s =
       gives-here ⊥ v [] U s (Behind v s (IsMaybe R)) (Some None) (λ x e l p g os k. as-made (λ (y : Option TypedTree). IsMaybe R os y × Here v os s) None x (tt, k) e)
   optional-gives R typed C h (Present (OfExpression a)) c s =
@@ -108,11 +108,11 @@ module _ (v : WholeUnit) (done : IsFinished v) where
 
   promoted-switched : (os : List ℕ) (a : TypedTree) → IsOperand U v os a → (t : Ty) → type_of a ≡ t → (k : IntKind) → kind_of (type_of (promotion a t)) ≡ Some k → IsSwitched os (record { value = promotion a t; kind = k })
   promoted-switched os a h (IntTy j) is k e =
-      let c = integer-converted U v os j (promoted j) a h is in
-      let same : promoted j ≡ k = some-same (promoted j) k (sym (ap kind_of c.is) ∙ e) in
+      let c = integer-converted U v os j (promotion_of j) a h is in
+      let same : promotion_of j ≡ k = some-same (promotion_of j) k (sym (ap kind_of c.is) ∙ e) in
       record {
         typed = c.typed tt;
-        is = subst (λ i. HasType (promotion a (IntTy j)) (IntTy i)) same (has-type U v os (IntTy (promoted j)) (promotion a (IntTy j)) c);
+        is = subst (λ i. HasType (promotion a (IntTy j)) (IntTy i)) same (has-type U v os (IntTy (promotion_of j)) (promotion a (IntTy j)) c);
         wide = subst IsPromoted same (promoted-wide j);
       }
   promoted-switched os a h VoidTy is k e = let q : kind_of VoidTy ≡ Some k = sym (ap kind_of is) ∙ e in absurd cc
@@ -123,9 +123,9 @@ module _ (v : WholeUnit) (done : IsFinished v) where
   promoted-switched os a h (FunctionTy t ts c) is k e = let q : kind_of (FunctionTy t ts c) ≡ Some k = sym (ap kind_of is) ∙ e in absurd cc
   promoted-switched os a h (ConstOf t) is k e = absurd (subst IsValueOrVoid is h.plain)
 
-  pub switched-gives : (e : ExpressionTree) → HasCharacters e → (s : State) → Gives ⊥ v [] U s (Behind v s IsSwitched) (switched e s)
+  pub switched-gives : (e : ExpressionTree) → HasCharacters e → (s : State) → Gives ⊥ v [] U s (Behind v s IsSwitched) (switch_value e s)
   switched-gives e chars s =
-      gives-then ⊥ v [] U s (Behind v s (λ os x. IsOperand U v os x)) (Behind v s IsSwitched) (valued e s) switched_by (valued-gives e chars s) (λ a m. by a (kind_of (type_of (promoted_value a.value))) refl)
+      gives-then ⊥ v [] U s (Behind v s (λ os x. IsOperand U v os x)) (Behind v s IsSwitched) (taken_value e s) switched_by (valued-gives e chars s) (λ a m. by a (kind_of (type_of (promoted_value a.value))) refl)
     where
       by : (a : After TypedTree) (o : Option IntKind) → kind_of (type_of (promoted_value a.value)) ≡ o
           → Gives ⊥ v [] (U × Behind v s (λ os x. IsOperand U v os x) a) a.state (Behind v s IsSwitched) (and_then o (λ k. give (Some (record { value = promoted_value a.value; kind = k })) a.state))

@@ -9,7 +9,7 @@ use Rattle.pv_typed.specs.TypedStatement as typed
 use Rattle.pv_typed.specs.TypedStatement.{TypedStatement, statements_of}
 use Rattle.pv_typed.specs.TypedUnits.{WholeUnit, object_at}
 use Rattle.pv_check.specs.State.{State, After, Scope, Meaning, ObjectName, FunctionName, TypedefOf, ConstantOf}
-use Rattle.pv_check.specs.Scopes.{no_scope, entered, left}
+use Rattle.pv_check.specs.Scopes.{no_scope, in_new_scope, behind_scope}
 use Rattle.pv_typed.specs.Constants.{and_then}
 use Rattle.pv_unit.specs.Statements.{leaving, condition, declared_by, declared_in, block_of}
 use Rattle.pv_unit.specs.Made.{if_made, else_made, while_made}
@@ -122,29 +122,29 @@ visible-more v os ps f ss h = each_weaker _ _ (λ (x : Scope) k. each_weaker _ _
     one (TypedefOf t) q = q
     one (ConstantOf k) q = q
 
-pub here-entered : (v : WholeUnit) (os : List ℕ) (s : State) → Here v os s → Here v os (entered s)
+pub here-entered : (v : WholeUnit) (os : List ℕ) (s : State) → Here v os s → Here v os (in_new_scope s)
 here-entered v os s h = record { evaluated = h.evaluated; visible = each_append _ s.scopes (no_scope ∷ []) h.visible (tt, tt) }
 
-pub here-left : (v : WholeUnit) (os : List ℕ) (t : State) → Here v os t → Here v os (left t)
+pub here-left : (v : WholeUnit) (os : List ℕ) (t : State) → Here v os t → Here v os (behind_scope t)
 here-left v os t h = record { evaluated = h.evaluated; visible = each-take _ (length t.scopes - 1) t.scopes h.visible }
 
 module _ (v : WholeUnit) (done : IsFinished v) where
   -- what was typed in a scope that ends with it
-  pub leaving-gives : {A : Type 0} (s : State) (Q T : After A → Type 0) (o : Option (After A)) → ((x : After A) → Outer (entered s).scopes x.state.scopes → Q x → T (record { value = x.value; state = left x.state }))
-      → Gives ⊥ v [] U (entered s) Q o → Gives ⊥ v [] U s T (leaving o)
+  pub leaving-gives : {A : Type 0} (s : State) (Q T : After A → Type 0) (o : Option (After A)) → ((x : After A) → Outer (in_new_scope s).scopes x.state.scopes → Q x → T (record { value = x.value; state = behind_scope x.state }))
+      → Gives ⊥ v [] U (in_new_scope s) Q o → Gives ⊥ v [] U s T (leaving o)
   leaving-gives s Q T None f h = gives-none ⊥ v [] U s T
   leaving-gives s Q T (Some x) f h =
       let r = h.held x refl in
-      gives-some ⊥ v [] U s T (record { value = x.value; state = left x.state }) (left-moves ⊥ ⊥ v [] s x.state r.0)
+      gives-some ⊥ v [] U s T (record { value = x.value; state = behind_scope x.state }) (left-moves ⊥ ⊥ v [] s x.state r.0)
       (λ l p g. let z = r.1 (record { unit = l.unit; used = l.used }) p (entered-proper v s g) in (left-proper v s x.state g.some r.0.outer z.0, f x r.0.outer z.1, z.2))
 
-  pub leave-statement : (r : Ty) (s : State) (x : After TypedStatement) → StatementIn v r (entered s) x → StatementIn v r s (record { value = x.value; state = left x.state })
+  pub leave-statement : (r : Ty) (s : State) (x : After TypedStatement) → StatementIn v r (in_new_scope s) x → StatementIn v r s (record { value = x.value; state = behind_scope x.state })
   leave-statement r s x h = record { plain = h.plain; typed = λ k os here avoid. let z = h.typed k os (here-entered v os s here) avoid in (z.0, here-left v os x.state z.1) }
 
   -- a statement in a scope of its own (6.8.4p3, 6.8.5p5)
-  pub inner : (r : Ty) (P : Type 0) (s : State) (o : Option (After TypedStatement)) → Gives ⊥ v [] U (entered s) (StatementIn v r (entered s)) o → Gives ⊥ v [] P s (StatementIn v r s) (leaving o)
+  pub inner : (r : Ty) (P : Type 0) (s : State) (o : Option (After TypedStatement)) → Gives ⊥ v [] U (in_new_scope s) (StatementIn v r (in_new_scope s)) o → Gives ⊥ v [] P s (StatementIn v r s) (leaving o)
   inner r P s o h = gives-weaker ⊥ ⊥ U P v [] s (StatementIn v r s) (StatementIn v r s) (leaving o) (λ f. f) (λ p. tt) (λ a q. q)
-      (leaving-gives s (StatementIn v r (entered s)) (StatementIn v r s) o (λ x o q. leave-statement r s x q) h)
+      (leaving-gives s (StatementIn v r (in_new_scope s)) (StatementIn v r s) o (λ x o q. leave-statement r s x q) h)
 
   abbrev pub IsConditionIn : State → After TypedTree → Type 0
   IsConditionIn s = Behind v s (λ os x. IsCondition v os x)
@@ -155,10 +155,10 @@ module _ (v : WholeUnit) (done : IsFinished v) where
 
   -- 6.8.4.1
   pub if-gives : (r : Ty) (line : ℕ) (a : ExpressionTree) → HasCharacters a → (body : State → Option (After TypedStatement)) → ((t : State) → t.unevaluated ≡ false → Gives ⊥ v [] U t (StatementIn v r t) (body t)) → (s : State) → s.unevaluated ≡ false
-      → Gives ⊥ v [] U s (StatementIn v r s) (and_then (condition a s) (λ c. and_then (leaving (body (entered c.state))) (if_made line c.value)))
+      → Gives ⊥ v [] U s (StatementIn v r s) (and_then (condition a s) (λ c. and_then (leaving (body (in_new_scope c.state))) (if_made line c.value)))
   if-gives r line a chars body h s ev =
-      gives-then ⊥ v [] U s (IsConditionIn s) (StatementIn v r s) (condition a s) (λ c. and_then (leaving (body (entered c.state))) (if_made line c.value)) (condition-gives v done a chars s)
-      (λ c m. gives-then ⊥ v [] (U × IsConditionIn s c) c.state (StatementIn v r c.state) (StatementIn v r s) (leaving (body (entered c.state))) (if_made line c.value) (inner r (U × IsConditionIn s c) c.state (body (entered c.state)) (h (entered c.state) (m.evaluated ∙ ev)))
+      gives-then ⊥ v [] U s (IsConditionIn s) (StatementIn v r s) (condition a s) (λ c. and_then (leaving (body (in_new_scope c.state))) (if_made line c.value)) (condition-gives v done a chars s)
+      (λ c m. gives-then ⊥ v [] (U × IsConditionIn s c) c.state (StatementIn v r c.state) (StatementIn v r s) (leaving (body (in_new_scope c.state))) (if_made line c.value) (inner r (U × IsConditionIn s c) c.state (body (in_new_scope c.state)) (h (in_new_scope c.state) (m.evaluated ∙ ev)))
       (λ b n. gives-here ⊥ v [] ((U × IsConditionIn s c) × StatementIn v r c.state b) b.state (StatementIn v r s) (Some (typed.If line c.value b.value))
       (λ y e l p g. made-statement r s (typed.If line c.value b.value) b.state (record {
         plain = refl;
@@ -170,10 +170,10 @@ module _ (v : WholeUnit) (done : IsFinished v) where
 
   -- 6.8.5.1: the same with `while_made`
   pub while-gives : (r : Ty) (line : ℕ) (a : ExpressionTree) → HasCharacters a → (body : State → Option (After TypedStatement)) → ((t : State) → t.unevaluated ≡ false → Gives ⊥ v [] U t (StatementIn v r t) (body t)) → (s : State) → s.unevaluated ≡ false
-      → Gives ⊥ v [] U s (StatementIn v r s) (and_then (condition a s) (λ c. and_then (leaving (body (entered c.state))) (while_made line c.value)))
+      → Gives ⊥ v [] U s (StatementIn v r s) (and_then (condition a s) (λ c. and_then (leaving (body (in_new_scope c.state))) (while_made line c.value)))
   while-gives r line a chars body h s ev =
-      gives-then ⊥ v [] U s (IsConditionIn s) (StatementIn v r s) (condition a s) (λ c. and_then (leaving (body (entered c.state))) (while_made line c.value)) (condition-gives v done a chars s)
-      (λ c m. gives-then ⊥ v [] (U × IsConditionIn s c) c.state (StatementIn v r c.state) (StatementIn v r s) (leaving (body (entered c.state))) (while_made line c.value) (inner r (U × IsConditionIn s c) c.state (body (entered c.state)) (h (entered c.state) (m.evaluated ∙ ev)))
+      gives-then ⊥ v [] U s (IsConditionIn s) (StatementIn v r s) (condition a s) (λ c. and_then (leaving (body (in_new_scope c.state))) (while_made line c.value)) (condition-gives v done a chars s)
+      (λ c m. gives-then ⊥ v [] (U × IsConditionIn s c) c.state (StatementIn v r c.state) (StatementIn v r s) (leaving (body (in_new_scope c.state))) (while_made line c.value) (inner r (U × IsConditionIn s c) c.state (body (in_new_scope c.state)) (h (in_new_scope c.state) (m.evaluated ∙ ev)))
       (λ b n. gives-here ⊥ v [] ((U × IsConditionIn s c) × StatementIn v r c.state b) b.state (StatementIn v r s) (Some (typed.While line c.value b.value))
       (λ y e l p g. made-statement r s (typed.While line c.value b.value) b.state (record {
         plain = refl;
@@ -186,13 +186,13 @@ module _ (v : WholeUnit) (done : IsFinished v) where
   -- 6.8.4.1: with `else`: the first body is `Kept` by what its second leaves (`kept-before`)
   pub else-gives : (r : Ty) (line : ℕ) (a : ExpressionTree) → HasCharacters a → (body other : State → Option (After TypedStatement)) → ((t : State) → t.unevaluated ≡ false → Gives ⊥ v [] U t (StatementIn v r t) (body t))
       → ((t : State) → t.unevaluated ≡ false → Gives ⊥ v [] U t (StatementIn v r t) (other t)) → (s : State) → s.unevaluated ≡ false
-      → Gives ⊥ v [] U s (StatementIn v r s) (and_then (condition a s) (λ c. and_then (leaving (body (entered c.state))) (λ b. and_then (leaving (other (entered b.state))) (else_made line c.value b.value))))
+      → Gives ⊥ v [] U s (StatementIn v r s) (and_then (condition a s) (λ c. and_then (leaving (body (in_new_scope c.state))) (λ b. and_then (leaving (other (in_new_scope b.state))) (else_made line c.value b.value))))
   else-gives r line a chars body other h k s ev =
-      gives-then ⊥ v [] U s (IsConditionIn s) (StatementIn v r s) (condition a s) (λ c. and_then (leaving (body (entered c.state))) (λ b. and_then (leaving (other (entered b.state))) (else_made line c.value b.value))) (condition-gives v done a chars s)
-      (λ c m. gives-then ⊥ v [] (U × IsConditionIn s c) c.state (StatementIn v r c.state) (StatementIn v r s) (leaving (body (entered c.state))) (λ b. and_then (leaving (other (entered b.state))) (else_made line c.value b.value))
-      (inner r (U × IsConditionIn s c) c.state (body (entered c.state)) (h (entered c.state) (m.evaluated ∙ ev)))
-      (λ b n. gives-then ⊥ v [] ((U × IsConditionIn s c) × StatementIn v r c.state b) b.state (StatementIn v r b.state) (StatementIn v r s) (leaving (other (entered b.state))) (else_made line c.value b.value)
-      (inner r ((U × IsConditionIn s c) × StatementIn v r c.state b) b.state (other (entered b.state)) (k (entered b.state) (n.evaluated ∙ m.evaluated ∙ ev)))
+      gives-then ⊥ v [] U s (IsConditionIn s) (StatementIn v r s) (condition a s) (λ c. and_then (leaving (body (in_new_scope c.state))) (λ b. and_then (leaving (other (in_new_scope b.state))) (else_made line c.value b.value))) (condition-gives v done a chars s)
+      (λ c m. gives-then ⊥ v [] (U × IsConditionIn s c) c.state (StatementIn v r c.state) (StatementIn v r s) (leaving (body (in_new_scope c.state))) (λ b. and_then (leaving (other (in_new_scope b.state))) (else_made line c.value b.value))
+      (inner r (U × IsConditionIn s c) c.state (body (in_new_scope c.state)) (h (in_new_scope c.state) (m.evaluated ∙ ev)))
+      (λ b n. gives-then ⊥ v [] ((U × IsConditionIn s c) × StatementIn v r c.state b) b.state (StatementIn v r b.state) (StatementIn v r s) (leaving (other (in_new_scope b.state))) (else_made line c.value b.value)
+      (inner r ((U × IsConditionIn s c) × StatementIn v r c.state b) b.state (other (in_new_scope b.state)) (k (in_new_scope b.state) (n.evaluated ∙ m.evaluated ∙ ev)))
       (λ d i. gives-here ⊥ v [] (((U × IsConditionIn s c) × StatementIn v r c.state b) × StatementIn v r b.state d) d.state (StatementIn v r s) (Some (typed.IfElse line c.value b.value d.value))
       (λ y e l p g. made-statement r s (typed.IfElse line c.value b.value d.value) d.state (record {
         plain = refl;
@@ -204,12 +204,12 @@ module _ (v : WholeUnit) (done : IsFinished v) where
       }) y e))))
 
   -- 6.8.2p2: a block
-  pub block-typed : (r : Ty) (line : ℕ) (s : State) (x : After (List TypedStatement)) → Outer (entered s).scopes x.state.scopes → ItemsIn v r (entered s) x → StatementIn v r s (record { value = block_of line x.value; state = left x.state })
+  pub block-typed : (r : Ty) (line : ℕ) (s : State) (x : After (List TypedStatement)) → Outer (in_new_scope s).scopes x.state.scopes → ItemsIn v r (in_new_scope s) x → StatementIn v r s (record { value = block_of line x.value; state = behind_scope x.state })
   block-typed r line s x outer h = record {
     plain = refl;
     typed = λ kept os here avoid.
         let ds = declared_in x.value in
-        let more : Here v (ds ++ os) (entered s) = record { evaluated = here.evaluated; visible = visible-more v os (ds ++ os) (λ o i. in-behind ds os o i) (entered s).scopes (here-entered v os s here).visible } in
+        let more : Here v (ds ++ os) (in_new_scope s) = record { evaluated = here.evaluated; visible = visible-more v os (ds ++ os) (λ o i. in-behind ds os o i) (in_new_scope s).scopes (here-entered v os s here).visible } in
         let t = h.typed kept (ds ++ os) more (all-in ds (ds ++ os) (λ d i. in-front ds os d i)) (beside (count s) (count x.state) ds os avoid) in (
           (h.made kept, new-beside (count s) (count x.state) ds os h.fresh h.once avoid, t.0),
           record { evaluated = (t.1).evaluated; visible = subst (AreVisible v os) (sym (left-scopes s.scopes x.state.scopes outer)) here.visible },

@@ -10,9 +10,9 @@ use Rattle.pv_typed.specs.TypedStatement.{TypedStatement, Statements, Block, Swi
 use Rattle.pv_typed.specs.TypedTree.{TypedTree}
 use Rattle.pv_typed.specs.TypedUnits.{WholeUnit}
 use Rattle.pv_check.specs.State.{State, After, give}
-use Rattle.pv_check.specs.Scopes.{entered, left}
-use Rattle.pv_unit.specs.Statements.{Label, CaseLabel, DefaultLabel, typed_label, label_in, typed_labels, under, Switched, switched, valued, leaving, declared_by, declared_in, block_of}
-use Rattle.pv_unit.specs.StatementParts.{stands, labelled, case_label}
+use Rattle.pv_check.specs.Scopes.{in_new_scope, behind_scope}
+use Rattle.pv_unit.specs.Statements.{Label, CaseLabel, DefaultLabel, typed_label, label_in, typed_labels, under, Switched, switch_value, taken_value, leaving, declared_by, declared_in, block_of}
+use Rattle.pv_unit.specs.StatementParts.{stands, labels_with, case_label}
 use Rattle.pv_unit.specs.TypedStatements.{Body}
 use Rattle.pv_unit.specs.Made.{body_made, switch_made}
 use Rattle.pv_guards.specs.TypedStatements.{IsTypedStatement}
@@ -44,13 +44,13 @@ module _ (v : WholeUnit) (done : IsFinished v) where
 
   label-gives : (k : IntKind) (x : StatementTree) → StatementCharacters x → (s : State) → Gives ⊥ v [] U s (KeepsNames v s) (typed_label k x s)
   label-gives k (Case line a) c s =
-      gives-then ⊥ v [] U s (Behind v s (λ os a. IsOperand U v os a)) (KeepsNames v s) (valued a s) (case_label k line) (valued-gives v done a c s) (λ x m. case-gives k line s x)
+      gives-then ⊥ v [] U s (Behind v s (λ os a. IsOperand U v os a)) (KeepsNames v s) (taken_value a s) (case_label k line) (valued-gives v done a c s) (λ x m. case-gives k line s x)
   label-gives k (Default line) c s = gives-here ⊥ v [] U s (KeepsNames v s) (Some (DefaultLabel line)) (λ y q l p g os h. h)
   label-gives k _ c s = gives-none ⊥ v [] U s (KeepsNames v s)
 
   label-in-gives : (k : IntKind) (seen : List Label) (x : Tree) → TreeCharacters x → (s : State) (own : After (List Label)) → Gives ⊥ v [] (U × KeepsNames v s own) own.state (KeepsNames v s) (label_in k seen x own)
   label-in-gives k seen (OfStatement l) c s own =
-      gives-then ⊥ v [] (U × KeepsNames v s own) own.state (KeepsNames v own.state) (KeepsNames v s) (typed_label k l own.state) (labelled seen own.value)
+      gives-then ⊥ v [] (U × KeepsNames v s own) own.state (KeepsNames v own.state) (KeepsNames v s) (typed_label k l own.state) (labels_with seen own.value)
       (any-given v (U × KeepsNames v s own) own.state (KeepsNames v own.state) (typed_label k l own.state) (label-gives k l c own.state))
       (λ x m. gives-unless ⊥ v [] ((U × KeepsNames v s own) × KeepsNames v own.state x) x.state (KeepsNames v s) (stands x.value (seen ++ own.value)) (give (Some (own.value ++ (x.value ∷ []))) x.state)
       (λ e. gives-here ⊥ v [] ((U × KeepsNames v s own) × KeepsNames v own.state x) x.state (KeepsNames v s) (Some (own.value ++ (x.value ∷ []))) (λ y q l p g os h. p.1 os (p.0.1 os h))))
@@ -96,26 +96,26 @@ module _ (v : WholeUnit) (done : IsFinished v) where
   abbrev IsMadeOf : Ty → (line : ℕ) → State → After TypedStatement → Type 0
   IsMadeOf r line s b = (x : After (List TypedStatement)) × (b.value ≡ block_of line x.value) × (b.state ≡ x.state) × ItemsIn v r s x
 
-  pub switch-block-gives : (r : Ty) (line : ℕ) (s : State) (items : Option (After Body)) → Gives ⊥ v [] U (entered s) (λ x. ItemsIn v r (entered s) (items_in x)) items
+  pub switch-block-gives : (r : Ty) (line : ℕ) (s : State) (items : Option (After Body)) → Gives ⊥ v [] U (in_new_scope s) (λ x. ItemsIn v r (in_new_scope s) (items_in x)) items
       → Gives ⊥ v [] U s (BlockIn r s) (leaving (and_then items (body_made line)))
   switch-block-gives r line s items h =
-      leaving-gives v done s (IsMadeOf r line (entered s)) (BlockIn r s) (and_then items (body_made line))
+      leaving-gives v done s (IsMadeOf r line (in_new_scope s)) (BlockIn r s) (and_then items (body_made line))
       (λ b outer q. record {
         block = (line, declared_in q.0.value, typed.statements_of q.0.value, q.1);
-        typed = subst (λ y. StatementIn v r s (record { value = y; state = left b.state })) (sym q.1)
-            (subst (λ t. StatementIn v r s (record { value = block_of line q.0.value; state = left t })) (sym q.2) (block-typed v done r line s q.0 (subst (λ t. Outer (entered s).scopes t.scopes) q.2 outer) q.3));
+        typed = subst (λ y. StatementIn v r s (record { value = y; state = behind_scope b.state })) (sym q.1)
+            (subst (λ t. StatementIn v r s (record { value = block_of line q.0.value; state = behind_scope t })) (sym q.2) (block-typed v done r line s q.0 (subst (λ t. Outer (in_new_scope s).scopes t.scopes) q.2 outer) q.3));
       })
-      (gives-then ⊥ v [] U (entered s) (λ x. ItemsIn v r (entered s) (items_in x)) (IsMadeOf r line (entered s)) items (body_made line) h
-      (λ x m. gives-here ⊥ v [] (U × ItemsIn v r (entered s) (items_in x)) x.state (IsMadeOf r line (entered s)) (Some (block_of line x.value.items))
+      (gives-then ⊥ v [] U (in_new_scope s) (λ x. ItemsIn v r (in_new_scope s) (items_in x)) (IsMadeOf r line (in_new_scope s)) items (body_made line) h
+      (λ x m. gives-here ⊥ v [] (U × ItemsIn v r (in_new_scope s) (items_in x)) x.state (IsMadeOf r line (in_new_scope s)) (Some (block_of line x.value.items))
       (λ y e l p g. (items_in x, sym (some-same (block_of line x.value.items) y e), refl, p.1))))
 
   switch-typed : (r : Ty) (os : List ℕ) (line : ℕ) (c : Switched) (m : ℕ) (ds : List ℕ) (xs : Statements) → IsSwitched v done os c → IsTypedStatement v r os (Block m ds xs) → IsTypedStatement v r os (Switch line c.value (Block m ds xs))
   switch-typed r os line c m ds xs h k = (c.kind, h.typed, h.is, h.wide, k.0, k.1, k.2)
 
   pub switch-gives : (r : Ty) (line : ℕ) (a : ExpressionTree) → HasCharacters a → (body : IntKind → State → Option (After TypedStatement)) → ((k : IntKind) (t : State) → t.unevaluated ≡ false → Gives ⊥ v [] U t (BlockIn r t) (body k t)) → (s : State) → s.unevaluated ≡ false
-      → Gives ⊥ v [] U s (StatementIn v r s) (and_then (switched a s) (λ c. and_then (body c.value.kind c.state) (switch_made line c.value.value)))
+      → Gives ⊥ v [] U s (StatementIn v r s) (and_then (switch_value a s) (λ c. and_then (body c.value.kind c.state) (switch_made line c.value.value)))
   switch-gives r line a chars body h s ev =
-      gives-then ⊥ v [] U s (Behind v s (λ os x. IsSwitched v done os x)) (StatementIn v r s) (switched a s) (λ c. and_then (body c.value.kind c.state) (switch_made line c.value.value)) (switched-gives v done a chars s)
+      gives-then ⊥ v [] U s (Behind v s (λ os x. IsSwitched v done os x)) (StatementIn v r s) (switch_value a s) (λ c. and_then (body c.value.kind c.state) (switch_made line c.value.value)) (switched-gives v done a chars s)
       (λ c m. gives-then ⊥ v [] (U × Behind v s (λ os x. IsSwitched v done os x) c) c.state (BlockIn r c.state) (StatementIn v r s) (body c.value.kind c.state) (switch_made line c.value.value)
       (any-given v (U × Behind v s (λ os x. IsSwitched v done os x) c) c.state (BlockIn r c.state) (body c.value.kind c.state) (h c.value.kind c.state (m.evaluated ∙ ev)))
       (λ b n. gives-here ⊥ v [] ((U × Behind v s (λ os x. IsSwitched v done os x) c) × BlockIn r c.state b) b.state (StatementIn v r s) (Some (Switch line c.value.value b.value))

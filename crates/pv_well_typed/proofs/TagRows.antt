@@ -14,10 +14,10 @@ use Rattle.pv_types.proofs.LayoutLaws.{layouts-push}
 use Rattle.pv_typed.specs.Known.{Each}
 use Rattle.pv_typed.specs.TypedUnits.{WholeUnit}
 use Rattle.pv_check.specs.State.{State, After, Scope, Meaning, ConstantOf, TagMeaning, CompositeTag, EnumerationTag, OpenEnumeration, give, env}
-use Rattle.pv_check.specs.Scopes.{no_scope, innermost, find, look_tag, bind, bind_tag, is_file_scope}
-use Rattle.pv_check.specs.ScopeParts.{bound}
+use Rattle.pv_check.specs.Scopes.{no_scope, innermost_scope, find, look_tag, bind, bind_tag, is_file_scope}
+use Rattle.pv_check.specs.ScopeParts.{with_meaning}
 use Rattle.pv_typed.specs.Constants.{and_then}
-use Rattle.pv_check.specs.Tags.{declared_new, composite_named, enumeration_named, tag_named, is_open, opened_named, opened, filed_with, with_done, completed, opened_enumeration, closed_enumeration, may_enumerate, enumerated}
+use Rattle.pv_check.specs.Tags.{declared_new, composite_named, enumeration_named, tag_named, is_open, opened_named, tag_before_list, filed_with, with_done, completion_of, opened_enumeration, closed_enumeration, may_enumerate, enumerator_step}
 use Rattle.pv_check.specs.TagParts.{some_members, is_small}
 use Rattle.pv_well_typed.specs.Proper.{IsProper}
 use Rattle.pv_well_typed.specs.Later.{Later}
@@ -40,13 +40,13 @@ tag-proper v true n e = e
 tag-proper v false n e = e
 
 -- 6.2.1p4: a name or a tag gets a meaning
-inner-known : (n : ℕ) (ss : List Scope) → Each (AreKnownNames n) ss → AreKnownNames n (innermost ss)
+inner-known : (n : ℕ) (ss : List Scope) → Each (AreKnownNames n) ss → AreKnownNames n (innermost_scope ss)
 inner-known n ss h = each-at (AreKnownNames n) no_scope ss (length ss - 1) tt h
 
 bound-orderly : (n : ℕ) (m : Meaning) (s : State) → IsKnownMeaning (length s.unit.functions) m → Orderly s → Orderly (bind n m s)
 bound-orderly n m s known h = record {
   names = each-set (AreKnownNames (length s.unit.functions)) s.scopes (length s.scopes - 1) _ h.names
-      (each-bound (IsKnownMeaning (length s.unit.functions)) n m (innermost s.scopes).names known (inner-known (length s.unit.functions) s.scopes h.names));
+      (each-bound (IsKnownMeaning (length s.unit.functions)) n m (innermost_scope s.scopes).names known (inner-known (length s.unit.functions) s.scopes h.names));
   uses = h.uses;
   sources = h.sources;
   written = h.written;
@@ -75,7 +75,7 @@ module _ (F : Type 0) (v : WholeUnit) (os : List ℕ) where
   pub bind-moves : (n : ℕ) (m : Meaning) (s : State) → (F → (w : WholeUnit) (ps : List ℕ) → IsVisible w ps m) → IsKnownMeaning (length s.unit.functions) m → Moves F v os s (bind n m s)
   bind-moves n m s h known = record {
     later = λ l. record { unit = l.unit; used = l.used };
-    outer = set-outer s.scopes (record (innermost s.scopes) { names = bound n m (innermost s.scopes).names }) (λ k h. find-bound n k m (innermost s.scopes).names h);
+    outer = set-outer s.scopes (record (innermost_scope s.scopes) { names = with_meaning n m (innermost_scope s.scopes).names }) (λ k h. find-bound n k m (innermost_scope s.scopes).names h);
     grows = ([], sym (append-nil (env s)));
     names = λ f w ps k. bind-visible w ps n m s (h f w ps) k;
     evaluated = refl;
@@ -90,7 +90,7 @@ module _ (F : Type 0) (v : WholeUnit) (os : List ℕ) where
   pub bind-tag-moves : (n : ℕ) (m : TagMeaning) (s : State) → Moves F v os s (bind_tag n m s)
   bind-tag-moves n m s = record {
     later = λ l. record { unit = l.unit; used = l.used };
-    outer = set-outer s.scopes (record (innermost s.scopes) { tags = bound n m (innermost s.scopes).tags }) (λ k h. h);
+    outer = set-outer s.scopes (record (innermost_scope s.scopes) { tags = with_meaning n m (innermost_scope s.scopes).tags }) (λ k h. h);
     grows = ([], sym (append-nil (env s)));
     names = λ f w ps k. bind-tag-visible w ps n m s k;
     evaluated = refl;
@@ -187,11 +187,11 @@ module _ (F : Type 0) (v : WholeUnit) (os : List ℕ) where
   opened-named-gives P u n (Some OpenEnumeration) s h = gives-none F v os P s (HasWord u)
 
   -- before `{`
-  pub opened-gives : (P : Type 0) (u : Bool) (n : Option ℕ) (s : State) → Gives F v os P s (HasWord u) (opened u n s)
+  pub opened-gives : (P : Type 0) (u : Bool) (n : Option ℕ) (s : State) → Gives F v os P s (HasWord u) (tag_before_list u n s)
   opened-gives P u None s =
       gives-some F v os P s (HasWord u) (record { value = length s.unit.headings; state = more_heading (record { name = None; union = u }) s }) (heading-moves (record { name = None; union = u }) s)
       (λ l p g. (heading-proper v (record { name = None; union = u }) s g, new-word None u s l, none-made v s (more_heading (record { name = None; union = u }) s) refl))
-  opened-gives P u (Some n) s = opened-named-gives P u n (find (innermost s.scopes).tags n) s (λ g k e. inner-tag v s g n k e)
+  opened-gives P u (Some n) s = opened-named-gives P u n (find (innermost_scope s.scopes).tags n) s (λ g k e. inner-tag v s g n k e)
 
   -- 6.7.2.1p3: members, in the layouts of the state behind them
   abbrev pub HasMembers : After (List Named) → Type 0
@@ -215,7 +215,7 @@ module _ (F : Type 0) (v : WholeUnit) (os : List ℕ) where
   MayComplete u k ms s = ((heading_at v.headings k).union ≡ u) × Each (IsMember v (env s)) ms
 
   -- 6.7.2.1p8: the type is complete from the `}` on
-  pub completed-gives : (u : Bool) (n : Option ℕ) (k : ℕ) (ms : List Named) (s : State) → AreComplete (env s) ms → nat_lt 0 (length ms) ≡ true → Gives F v os (MayComplete u k ms s) s HasProperType (completed u n k ms s)
+  pub completed-gives : (u : Bool) (n : Option ℕ) (k : ℕ) (ms : List Named) (s : State) → AreComplete (env s) ms → nat_lt 0 (length ms) ≡ true → Gives F v os (MayComplete u k ms s) s HasProperType (completion_of u n k ms s)
   completed-gives u n k ms s complete some =
       gives-if F v os (MayComplete u k ms s) s HasProperType (is_open s k) _
       (λ e. gives-if F v os (MayComplete u k ms s) s HasProperType (is_small (with_done u k ms s) (tag_type u k)) _
@@ -227,7 +227,7 @@ module _ (F : Type 0) (v : WholeUnit) (os : List ℕ) where
 
   pub opened-then : {A : Type 0} (P : Type 0) (n : Option ℕ) (s : State) (Q : After A → Type 0) (f : State → Option (After A)) → ((t : State) → Gives F v os P t Q (f t)) → Gives F v os P s Q (and_then (opened_enumeration n s) f)
   opened-then P None s Q f h = h s
-  opened-then {A} P (Some n) s Q f h = by (is_some (find (innermost s.scopes).tags n))
+  opened-then {A} P (Some n) s Q f h = by (is_some (find (innermost_scope s.scopes).tags n))
     where
       by : (b : Bool) → Gives F v os P s Q (and_then (if b then None else Some (bind_tag n OpenEnumeration s)) f)
       by true = gives-none F v os P s Q
@@ -240,8 +240,8 @@ module _ (F : Type 0) (v : WholeUnit) (os : List ℕ) where
   abbrev pub IsAny : {A : Type 0} → After A → Type 0
   IsAny a = Unit {0}
 
-  pub enumerated-gives : (P : Type 0) (n : ℕ) (k : ℤ) (s : State) → Gives F v os P s IsAny (enumerated n k s)
-  enumerated-gives P n k s = gives-if F v os P s IsAny (may_enumerate n k s) _ (λ e. by (fits-read Int k (fits e)) (is_some (find (innermost s.scopes).names n)))
+  pub enumerated-gives : (P : Type 0) (n : ℕ) (k : ℤ) (s : State) → Gives F v os P s IsAny (enumerator_step n k s)
+  enumerated-gives P n k s = gives-if F v os P s IsAny (may_enumerate n k s) _ (λ e. by (fits-read Int k (fits e)) (is_some (find (innermost_scope s.scopes).names n)))
     where
       fits : may_enumerate n k s ≡ true → fits_of Int k ≡ true
       fits e = (both-true (fits_of Int k) _ e).0

@@ -7,7 +7,7 @@ use Rattle.pv_token.specs.declared.marks.Mark.TheVariants as mark
 use Rattle.pv_num.specs.declared.kinds.IntKind.TheVariants.{Int}
 use Rattle.pv_num.specs.Kinds.{Fits}
 use Rattle.pv_tree.specs.Levels.{binary_mark, assign_mark}
-use Rattle.pv_tree.specs.Spelling.{comma_tokens, in_parens, in_brackets, in_braces, ended, before_argument, before_member, expression_tokens, arguments_tokens, declaration_tokens, declarator_tokens, initializer_tokens, statement_tokens, tree_tokens, trees_tokens, listed_tokens, optional_tokens, value_tokens}
+use Rattle.pv_tree.specs.Spelling.{comma_tokens, in_parens, in_brackets, in_braces, with_semicolon, before_argument, before_member, expression_tokens, arguments_tokens, declaration_tokens, declarator_tokens, initializer_tokens, statement_tokens, tree_tokens, trees_tokens, listed_tokens, optional_tokens, value_tokens}
 use Rattle.pv_tree.specs.Syntax.{ExpressionTree, Name, Number, Character, Text, Paren, Index, Call, Member, Arrow, PostIncrement, PostDecrement, PreIncrement, PreDecrement, Unary, SizeofExpr, SizeofType, Cast, Binary, Conditional, Assign, Comma, ArgumentTrees, NoArguments, Argument, DeclarationTree, Function, Declaration, InitDeclarator, MemberDeclaration, Enumerator, Parameter, TypeName, InitializerTree, Initial, Braces, StatementTree, Block, ExpressionStatement, If, IfElse, While, DoWhile, For, ForDeclaration, Switch, SwitchBlock, Labelled, Case, Default, Break, Continue, Return, Tree, OfExpression, OfDeclaration, OfDeclarator, OfSpecifier, OfInitializer, OfStatement, Trees, NoTrees, Then, OptionalTree, Absent, Present}
 use Rattle.pv_typed.specs.Known.{Each}
 use Rattle.pv_typed.proofs.Each.{each_left, each_right}
@@ -40,7 +40,7 @@ brackets ts h = front ts (kind.Mark mark.CloseBracket ∷ []) h.1
 braces : (ts : List TokenKind) → Each IsIntToken (in_braces ts) → Each IsIntToken ts
 braces ts h = front ts (kind.Mark mark.CloseBrace ∷ []) h.1
 
-end : (ts : List TokenKind) → Each IsIntToken (ended ts) → Each IsIntToken ts
+end : (ts : List TokenKind) → Each IsIntToken (with_semicolon ts) → Each IsIntToken ts
 end ts h = front ts (kind.Mark mark.Semicolon ∷ []) h
 
 arguments-before : (xs : ArgumentTrees) → Each IsIntToken (before_argument xs (arguments_tokens xs)) → Each IsIntToken (arguments_tokens xs)
@@ -140,24 +140,24 @@ mutual
       )
   statement-ints (While line a b) h = (expression-ints a (parens (expression_tokens a) (front (in_parens (expression_tokens a)) (statement_tokens b) h.1)), statement-ints b (back (in_parens (expression_tokens a)) (statement_tokens b) h.1))
   statement-ints (DoWhile line b a) h = (
-    statement-ints b (front (statement_tokens b) (kind.Word word.While ∷ ended (in_parens (expression_tokens a))) h.1),
-    expression-ints a (parens (expression_tokens a) (end (in_parens (expression_tokens a)) (back (statement_tokens b) (kind.Word word.While ∷ ended (in_parens (expression_tokens a))) h.1).1)),
+    statement-ints b (front (statement_tokens b) (kind.Word word.While ∷ with_semicolon (in_parens (expression_tokens a))) h.1),
+    expression-ints a (parens (expression_tokens a) (end (in_parens (expression_tokens a)) (back (statement_tokens b) (kind.Word word.While ∷ with_semicolon (in_parens (expression_tokens a))) h.1).1)),
   )
   statement-ints (For line first a step b) h =
-      let inner = parens (ended (optional_tokens first) ++ (ended (optional_tokens a) ++ optional_tokens step)) (front (in_parens (ended (optional_tokens first) ++ (ended (optional_tokens a) ++ optional_tokens step))) (statement_tokens b) h.1) in
-      let rest = back (ended (optional_tokens first)) (ended (optional_tokens a) ++ optional_tokens step) inner in (
-        optional-ints first (end (optional_tokens first) (front (ended (optional_tokens first)) (ended (optional_tokens a) ++ optional_tokens step) inner)),
-        optional-ints a (end (optional_tokens a) (front (ended (optional_tokens a)) (optional_tokens step) rest)),
-        optional-ints step (back (ended (optional_tokens a)) (optional_tokens step) rest),
-        statement-ints b (back (in_parens (ended (optional_tokens first) ++ (ended (optional_tokens a) ++ optional_tokens step))) (statement_tokens b) h.1),
+      let inner = parens (with_semicolon (optional_tokens first) ++ (with_semicolon (optional_tokens a) ++ optional_tokens step)) (front (in_parens (with_semicolon (optional_tokens first) ++ (with_semicolon (optional_tokens a) ++ optional_tokens step))) (statement_tokens b) h.1) in
+      let rest = back (with_semicolon (optional_tokens first)) (with_semicolon (optional_tokens a) ++ optional_tokens step) inner in (
+        optional-ints first (end (optional_tokens first) (front (with_semicolon (optional_tokens first)) (with_semicolon (optional_tokens a) ++ optional_tokens step) inner)),
+        optional-ints a (end (optional_tokens a) (front (with_semicolon (optional_tokens a)) (optional_tokens step) rest)),
+        optional-ints step (back (with_semicolon (optional_tokens a)) (optional_tokens step) rest),
+        statement-ints b (back (in_parens (with_semicolon (optional_tokens first) ++ (with_semicolon (optional_tokens a) ++ optional_tokens step))) (statement_tokens b) h.1),
       )
   statement-ints (ForDeclaration line d a step b) h =
-      let inner = parens (declaration_tokens d ++ (ended (optional_tokens a) ++ optional_tokens step)) (front (in_parens (declaration_tokens d ++ (ended (optional_tokens a) ++ optional_tokens step))) (statement_tokens b) h.1) in
-      let rest = back (declaration_tokens d) (ended (optional_tokens a) ++ optional_tokens step) inner in (
-        declaration-ints d (front (declaration_tokens d) (ended (optional_tokens a) ++ optional_tokens step) inner),
-        optional-ints a (end (optional_tokens a) (front (ended (optional_tokens a)) (optional_tokens step) rest)),
-        optional-ints step (back (ended (optional_tokens a)) (optional_tokens step) rest),
-        statement-ints b (back (in_parens (declaration_tokens d ++ (ended (optional_tokens a) ++ optional_tokens step))) (statement_tokens b) h.1),
+      let inner = parens (declaration_tokens d ++ (with_semicolon (optional_tokens a) ++ optional_tokens step)) (front (in_parens (declaration_tokens d ++ (with_semicolon (optional_tokens a) ++ optional_tokens step))) (statement_tokens b) h.1) in
+      let rest = back (declaration_tokens d) (with_semicolon (optional_tokens a) ++ optional_tokens step) inner in (
+        declaration-ints d (front (declaration_tokens d) (with_semicolon (optional_tokens a) ++ optional_tokens step) inner),
+        optional-ints a (end (optional_tokens a) (front (with_semicolon (optional_tokens a)) (optional_tokens step) rest)),
+        optional-ints step (back (with_semicolon (optional_tokens a)) (optional_tokens step) rest),
+        statement-ints b (back (in_parens (declaration_tokens d ++ (with_semicolon (optional_tokens a) ++ optional_tokens step))) (statement_tokens b) h.1),
       )
   statement-ints (Switch line a b) h = (expression-ints a (parens (expression_tokens a) (front (in_parens (expression_tokens a)) (statement_tokens b) h.1)), statement-ints b (back (in_parens (expression_tokens a)) (statement_tokens b) h.1))
   statement-ints (SwitchBlock line items) h = trees-ints items (braces (trees_tokens items) h)

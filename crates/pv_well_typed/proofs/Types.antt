@@ -8,9 +8,9 @@ use Rattle.pv_types.specs.Ty.{Ty, VoidTy, IntTy, PointerTo, ArrayOf, StructTag, 
 use Rattle.pv_types.specs.Layouts.{Entry, layout_in, is_complete_in}
 use Rattle.pv_types.proofs.LayoutLaws.{layout-append, complete-append}
 use Rattle.pv_types.proofs.Fills.{layout_fills}
-use Rattle.pv_types.specs.Sorts.{bare, kind_of, pointed_by, is_scalar, is_void}
+use Rattle.pv_types.specs.Sorts.{bare_type, kind_of, pointed_by, is_scalar, is_void}
 use Rattle.pv_typed.specs.TypedUnits.{WholeUnit, layouts}
-use Rattle.pv_check.specs.Qualified.{qualified, qualified_if}
+use Rattle.pv_check.specs.Qualified.{const_version, qualified_if}
 use Rattle.pv_check.proofs.Growth.{complete_qualified, size_qualified}
 use Rattle.pv_check.specs.Sorts.{complete_pointed_by, is_array}
 use Rattle.pv_check.specs.SortParts.{complete_by}
@@ -19,7 +19,7 @@ use Rattle.pv_guards.specs.Typed.{IsSized, IsValueType, IsScalarType, IsIntegerT
 use Rattle.pv_well_typed.specs.Proper.{IsValueOrVoid, IsSmallArray, IsProper}
 use Rattle.pv_well_typed.specs.Later.{IsFinished, Extends}
 
-pub proper-bare : (v : WholeUnit) (t : Ty) → IsProper v t → IsProper v (bare t)
+pub proper-bare : (v : WholeUnit) (t : Ty) → IsProper v t → IsProper v (bare_type t)
 proper-bare v VoidTy h = tt
 proper-bare v (IntTy k) h = tt
 proper-bare v (PointerTo t) h = h
@@ -30,7 +30,7 @@ proper-bare v (FunctionTy t ts c) h = h
 proper-bare v (ConstOf t) h = proper-bare v t h.1
 
 -- a type that stands without qualifiers
-pub plain-bare : (t : Ty) → IsValueOrVoid t → bare t ≡ t
+pub plain-bare : (t : Ty) → IsValueOrVoid t → bare_type t ≡ t
 plain-bare VoidTy h = refl
 plain-bare (IntTy k) h = refl
 plain-bare (PointerTo t) h = refl
@@ -63,7 +63,7 @@ complete-value es (FunctionTy t ts c) p h = absurd p
 complete-value es (ConstOf t) p h = absurd p
 
 -- 6.3.2.1p2: what is held by an object of a complete type that is no array
-pub held-value : (v : WholeUnit) (es : List Entry) (t : Ty) → IsProper v t → is_complete_in es t ≡ true → is_array t ≡ false → IsValueType (bare t)
+pub held-value : (v : WholeUnit) (es : List Entry) (t : Ty) → IsProper v t → is_complete_in es t ≡ true → is_array t ≡ false → IsValueType (bare_type t)
 held-value v es VoidTy p h a = absurd cc
 held-value v es (IntTy k) p h a = tt
 held-value v es (PointerTo t) p h a = tt
@@ -74,7 +74,7 @@ held-value v es (FunctionTy t ts c) p h a = absurd cc
 held-value v es (ConstOf t) p h a = subst IsValueType (sym (plain-bare t p.0)) (complete-value es t p.0 h)
 
 -- without qualifiers, a type that is neither an array nor a function
-pub plain-value : (v : WholeUnit) (t : Ty) → IsProper v t → is_array t ≡ false → is_function t ≡ false → IsValueOrVoid (bare t)
+pub plain-value : (v : WholeUnit) (t : Ty) → IsProper v t → is_array t ≡ false → is_function t ≡ false → IsValueOrVoid (bare_type t)
 plain-value v VoidTy p a f = tt
 plain-value v (IntTy k) p a f = tt
 plain-value v (PointerTo t) p a f = tt
@@ -201,12 +201,12 @@ no-function es (UnionTag n) h = refl
 no-function es (FunctionTy t ts c) h = absurd cc
 no-function es (ConstOf t) h = refl
 
-small-qualified : (v : WholeUnit) (t : Ty) (n : Option ℕ) → IsSmallArray v t n → IsSmallArray v (qualified t) n
+small-qualified : (v : WholeUnit) (t : Ty) (n : Option ℕ) → IsSmallArray v t n → IsSmallArray v (const_version t) n
 small-qualified v t None h = tt
 small-qualified v t (Some n) h = subst (λ s. n * s ≤ 2 ^ 32) (sym (size_qualified (layouts v) t)) h
 
 -- 6.7.3p9: `const` around a type, where it may stand
-pub proper-qualified : (v : WholeUnit) (t : Ty) → IsProper v t → is_function t ≡ false → IsProper v (qualified t)
+pub proper-qualified : (v : WholeUnit) (t : Ty) → IsProper v t → is_function t ≡ false → IsProper v (const_version t)
 proper-qualified v VoidTy h f = (tt, tt)
 proper-qualified v (IntTy k) h f = (tt, tt)
 proper-qualified v (PointerTo t) h f = (tt, h)

@@ -6,7 +6,7 @@ use Rattle.pv_num.specs.declared.kinds.IntKind.{IntKind}
 use Rattle.pv_num.specs.declared.kinds.IntKind.TheVariants.{Int, ULong}
 use Rattle.pv_num.specs.declared.operators.UnOp.{UnOp}
 use Rattle.pv_num.specs.declared.operators.UnOp.TheVariants.{Plus, Minus, Flip}
-use Rattle.pv_num.specs.Kinds.{Fits, promoted}
+use Rattle.pv_num.specs.Kinds.{Fits, promotion_of}
 use Rattle.pv_tree.specs.declared.operators.UnaryOperator.{UnaryOperator}
 use Rattle.pv_tree.specs.declared.operators.UnaryOperator.TheVariants as unary
 use Rattle.pv_types.specs.Layouts.{Entry, layout_in, is_complete_in}
@@ -15,9 +15,9 @@ use Rattle.pv_typed.specs.Addresses.{is_null_constant}
 use Rattle.pv_typed.specs.TypedTree.{TypedTree, Node, Subscript, Indirection, Address, Unary, Not, Sizeof, Cast, type_of, is_lvalue, is_function}
 use Rattle.pv_typed.specs.TypedUnits.{WholeUnit, layouts}
 use Rattle.pv_check.specs.Sorts.{points_to_function, is_truth_kind}
-use Rattle.pv_types.specs.Sorts.{kind_in, kind_of, pointed_in, pointed_by, is_scalar_in, is_scalar, is_void_in, is_void, bare}
+use Rattle.pv_types.specs.Sorts.{kind_in, kind_of, pointed_in, pointed_by, is_scalar_in, is_scalar, is_void_in, is_void, bare_type}
 use Rattle.pv_check.specs.SortParts.{is_function_if, is_truth}
-use Rattle.pv_check.specs.Values.{written, converted, value_of}
+use Rattle.pv_check.specs.Values.{source_node, conversion_to, value_of}
 use Rattle.pv_typed.specs.Constants.{and_then}
 use Rattle.pv_check.specs.Unary.{under_address, value_row, unary_of, sizeof_type, may_cast, cast_of}
 use Rattle.pv_check.specs.UnaryParts.{arithmetic_at, address_of, indirection_to, not_of, may_recast}
@@ -79,12 +79,12 @@ recast t u null p scalar e = by (points_to_function u) (points_to_function t) re
   where
     by : (b c : Bool) → points_to_function u ≡ b → points_to_function t ≡ c
         → (if b then points_to_function t || is_truth t else (if c then null else is_scalar t && is_scalar u)) ≡ true → (is_scalar t ≡ true) × IsScalarType u
-    by true c q r e = (either-scalar (bare t) e, scalar-type u p (pointer-scalar (bare u) q))
-    by false true q r e = (pointer-scalar (bare t) r, scalar e)
+    by true c q r e = (either-scalar (bare_type t) e, scalar-type u p (pointer-scalar (bare_type u) q))
+    by false true q r e = (pointer-scalar (bare_type t) r, scalar e)
     by false false q r e = let h = both-true (is_scalar t) (is_scalar u) e in (h.0, scalar-type u p h.1)
 
 -- what has a value, or none, is no function
-plain-no-function : (t : Ty) → IsValueOrVoid (bare t) → is_function t ≡ false
+plain-no-function : (t : Ty) → IsValueOrVoid (bare_type t) → is_function t ≡ false
 plain-no-function VoidTy h = refl
 plain-no-function (IntTy k) h = refl
 plain-no-function (PointerTo t) h = refl
@@ -117,12 +117,12 @@ void-cast u (UnionTag n) e = absurd cc
 void-cast u (FunctionTy t ts c) e = absurd cc
 void-cast u (ConstOf t) e = absurd cc
 
-may-cast : (t u : Ty) (null : Bool) → IsValueOrVoid u → (null ≡ true → IsScalarType u) → may_cast t u null ≡ true → Casts u (bare t)
+may-cast : (t u : Ty) (null : Bool) → IsValueOrVoid u → (null ≡ true → IsScalarType u) → may_cast t u null ≡ true → Casts u (bare_type t)
 may-cast t u null p scalar e = by (is_void t) refl e
   where
-    by : (b : Bool) → is_void t ≡ b → (if b then true else may_recast t u null) ≡ true → Casts u (bare t)
-    by true q e = void-cast u (bare t) q
-    by false q e = let h = recast t u null p scalar e in scalar-cast u (bare t) h.0 h.1
+    by : (b : Bool) → is_void t ≡ b → (if b then true else may_recast t u null) ≡ true → Casts u (bare_type t)
+    by true q e = void-cast u (bare_type t) q
+    by false q e = let h = recast t u null p scalar e in scalar-cast u (bare_type t) h.0 h.1
 
 module _ (E : Type 0) (v : WholeUnit) (os : List ℕ) (done : IsFinished v) (es : List Entry) (more : Extends es v) where
   -- 6.5.3.2p1, p3
@@ -132,8 +132,8 @@ module _ (E : Type 0) (v : WholeUnit) (os : List ℕ) (done : IsFinished v) (es 
       u : Under v os a (under_address a)
       u = under v os a
 
-      by : (b : Bool) → is_lvalue a ≡ b → (if b then Some (written line (PointerTo (type_of a)) (Address (under_address a))) else None) ≡ Some x → IsExpression E v os x
-      by true p e = as-made (IsExpression E v os) (written line (PointerTo (type_of a)) (Address (under_address a))) x (record {
+      by : (b : Bool) → is_lvalue a ≡ b → (if b then Some (source_node line (PointerTo (type_of a)) (Address (under_address a))) else None) ≡ Some x → IsExpression E v os x
+      by true p e = as-made (IsExpression E v os) (source_node line (PointerTo (type_of a)) (Address (under_address a))) x (record {
         typed = λ i. (u.typed (h.typed i), u.place ∙ p, ap PointerTo (sym u.is));
         proper = h.proper;
         valued = λ n. (refl, tt);
@@ -151,7 +151,7 @@ module _ (E : Type 0) (v : WholeUnit) (os : List ℕ) (done : IsFinished v) (es 
       proper : IsProper v t
       proper = subst (IsProper v) is h.proper
 
-      typed : E → (b : Bool) → is_void t ≡ b → IsTyped v os (written line (if b then VoidTy else t) (Indirection a))
+      typed : E → (b : Bool) → is_void t ≡ b → IsTyped v os (source_node line (if b then VoidTy else t) (Indirection a))
       typed i b q = (t, h.typed i, has-value-as E v os a (PointerTo t) h is, ap (λ c. if c then VoidTy else t) (sym q))
 
       no-value : is_void t ≡ false → not (is_void t) ≡ false → ⊥
@@ -159,17 +159,17 @@ module _ (E : Type 0) (v : WholeUnit) (os : List ℕ) (done : IsFinished v) (es 
           let place : true ≡ false = sym (ap not q) ∙ n in
           absurd cc
 
-      by : (b : Bool) → is_void t ≡ b → Some (written line (if b then VoidTy else t) (Indirection a)) ≡ Some x → IsExpression E v os x
-      by true q e = as-made (IsExpression E v os) (written line VoidTy (Indirection a)) x (record { typed = λ i. typed i true q; proper = tt; valued = λ n. (refl, tt) }) e
-      by false q e = as-made (IsExpression E v os) (written line t (Indirection a)) x (record { typed = λ i. typed i false q; proper = proper; valued = λ n. absurd (no-value q n) }) e
+      by : (b : Bool) → is_void t ≡ b → Some (source_node line (if b then VoidTy else t) (Indirection a)) ≡ Some x → IsExpression E v os x
+      by true q e = as-made (IsExpression E v os) (source_node line VoidTy (Indirection a)) x (record { typed = λ i. typed i true q; proper = tt; valued = λ n. (refl, tt) }) e
+      by false q e = as-made (IsExpression E v os) (source_node line t (Indirection a)) x (record { typed = λ i. typed i false q; proper = proper; valued = λ n. absurd (no-value q n) }) e
 
   -- 6.5.3.3p1 to p4
   sign-row : (line : ℕ) (op : UnOp) (a : TypedTree) → IsOperand E v os a → (o : Option IntKind) → kind_of (type_of a) ≡ o → (x : TypedTree) → arithmetic_at line op a o ≡ Some x → IsExpression E v os x
   sign-row line op a h None p x e = absurd cc
   sign-row line op a h (Some k) p x e =
-      let c = integer-converted E v os k (promoted k) a h (kind-type (type_of a) k h.plain p) in
-      as-made (IsExpression E v os) (written line (IntTy (promoted k)) (Unary op (converted (IntTy (promoted k)) a))) x (record {
-        typed = λ i. (promoted k, c.typed i, has-type E v os (IntTy (promoted k)) (converted (IntTy (promoted k)) a) c, promoted-wide k, refl);
+      let c = integer-converted E v os k (promotion_of k) a h (kind-type (type_of a) k h.plain p) in
+      as-made (IsExpression E v os) (source_node line (IntTy (promotion_of k)) (Unary op (conversion_to (IntTy (promotion_of k)) a))) x (record {
+        typed = λ i. (promotion_of k, c.typed i, has-type E v os (IntTy (promotion_of k)) (conversion_to (IntTy (promotion_of k)) a) c, promoted-wide k, refl);
         proper = tt;
         valued = λ n. (refl, tt);
       }) e
@@ -178,8 +178,8 @@ module _ (E : Type 0) (v : WholeUnit) (os : List ℕ) (done : IsFinished v) (es 
   not-row : (line : ℕ) (a : TypedTree) → IsOperand E v os a → (x : TypedTree) → not_of line a ≡ Some x → IsExpression E v os x
   not-row line a h x e = by (is_scalar (type_of a)) refl e
     where
-      by : (b : Bool) → is_scalar (type_of a) ≡ b → (if b then Some (written line (IntTy Int) (Not a)) else None) ≡ Some x → IsExpression E v os x
-      by true p e = as-made (IsExpression E v os) (written line (IntTy Int) (Not a)) x (record {
+      by : (b : Bool) → is_scalar (type_of a) ≡ b → (if b then Some (source_node line (IntTy Int) (Not a)) else None) ≡ Some x → IsExpression E v os x
+      by true p e = as-made (IsExpression E v os) (source_node line (IntTy Int) (Not a)) x (record {
         typed = λ i. (h.typed i, has-value E v os a h, scalar-type (type_of a) h.plain p, refl);
         proper = tt;
         valued = λ n. (refl, tt);
@@ -217,11 +217,11 @@ module _ (E : Type 0) (v : WholeUnit) (os : List ℕ) (done : IsFinished v) (es 
   pub sizeof-row : (line : ℕ) (t : Ty) → (is_function t ≡ false → IsProper v t) → (x : TypedTree) → sizeof_type es line t ≡ Some x → IsExpression E v os x
   sizeof-row line t h x e = by (is_complete_in es t) refl e
     where
-      by : (b : Bool) → is_complete_in es t ≡ b → (if b then Some (written line (IntTy ULong) (Sizeof (layout_in es t).size)) else None) ≡ Some x → IsExpression E v os x
+      by : (b : Bool) → is_complete_in es t ≡ b → (if b then Some (source_node line (IntTy ULong) (Sizeof (layout_in es t).size)) else None) ≡ Some x → IsExpression E v os x
       by true p e =
           let fits = small v done t (h (no-function es t p)) (complete-later es v more t p) in
           let same : (layout_in (layouts v) t).size ≡ (layout_in es t).size = ap (λ l. l.size) (layout-later es v more t p) in
-          as-made (IsExpression E v os) (written line (IntTy ULong) (Sizeof (layout_in es t).size)) x (record {
+          as-made (IsExpression E v os) (source_node line (IntTy ULong) (Sizeof (layout_in es t).size)) x (record {
             typed = λ i. (ULong, refl, size-fits (layout_in es t).size (subst (λ n. n ≤ 2 ^ 32) same fits));
             proper = tt;
             valued = λ n. (refl, tt);
@@ -232,10 +232,10 @@ module _ (E : Type 0) (v : WholeUnit) (os : List ℕ) (done : IsFinished v) (es 
   pub cast-row : (line : ℕ) (t : Ty) → (is_function t ≡ false → IsProper v t) → (a : TypedTree) → IsOperand E v os a → (x : TypedTree) → cast_of line t a ≡ Some x → IsExpression E v os x
   cast-row line t q a h x e = by (may_cast t (type_of a) (is_null_constant a)) refl e
     where
-      by : (b : Bool) → may_cast t (type_of a) (is_null_constant a) ≡ b → (if b then Some (written line (bare t) (Cast a)) else None) ≡ Some x → IsExpression E v os x
+      by : (b : Bool) → may_cast t (type_of a) (is_null_constant a) ≡ b → (if b then Some (source_node line (bare_type t) (Cast a)) else None) ≡ Some x → IsExpression E v os x
       by true p e =
           let may = may-cast t (type_of a) (is_null_constant a) h.plain (null-scalar a h.plain) p in
-          as-made (IsExpression E v os) (written line (bare t) (Cast a)) x (record {
+          as-made (IsExpression E v os) (source_node line (bare_type t) (Cast a)) x (record {
             typed = λ i. (h.typed i, has-value E v os a h, may.0);
             proper = proper-bare v t (q (plain-no-function t may.1));
             valued = λ n. (refl, may.1);

@@ -4,7 +4,7 @@ use Rattle.std.proofs.Common.{◌≡◌, ℕ, zero, suc, ◌<◌, ◌≤◌, ◌
 use Rattle.std.proofs.lemmas.Bool.{eqb-true, eq-eqb}
 use Rattle.std.specs.Prelude.{if◌then◌else◌}
 use Rattle.pv_types.specs.Layouts.{Entry, up_to, layout_in, is_complete_in}
-use Rattle.pv_unit.specs.Parts.{sized}
+use Rattle.pv_unit.specs.Parts.{with_size}
 use Rattle.pv_typed.specs.Addresses.{size_in}
 use Rattle.pv_typed.specs.AddressParts.{or_zero}
 use Rattle.pv_well_typed.proofs.PrimaryRows.{each-at}
@@ -13,7 +13,7 @@ use Rattle.pv_types.specs.Ty.{Ty, Tys, NoTys, MoreTys, VoidTy, IntTy, PointerTo,
 use Rattle.pv_typed.specs.TypedUnits.{WholeUnit, TypedObject, TypedFunction, object_at, function_at, name_at}
 use Rattle.pv_typed.specs.UnitParts.{no_object, no_function}
 use Rattle.pv_library.specs.LibraryNames.{library_named}
-use Rattle.pv_check.specs.Composite.{composite, composites}
+use Rattle.pv_check.specs.Composite.{composite_of, composites}
 use Rattle.pv_check.specs.State.{State, ObjectName}
 use Rattle.pv_unit.specs.Redeclarations.{with_function, with_function_type, unit_name, new_object, new_function}
 use Rattle.pv_unit.specs.Initializers.{Given}
@@ -66,7 +66,7 @@ given-orderly o x s h = with-object-orderly o (record (object_at s.unit o) { t =
 
 -- ---- 6.2.7p3: a composite type has the same values as either of the two
 
-pub composite-like : (t u : Ty) → AreLike (composite t u) t
+pub composite-like : (t u : Ty) → AreLike (composite_of t u) t
 composite-like (PointerTo t) (PointerTo u) = λ env w. ((λ h. h), (λ h. h))
 composite-like (ArrayOf t m) (ArrayOf u n) = λ env w. ((λ h. absurd h), (λ h. absurd h))
 composite-like (FunctionTy t ts c) (FunctionTy u us d) = λ env w. ((λ h. absurd h), (λ h. absurd h))
@@ -80,14 +80,14 @@ pub like-back : (t u : Ty) → AreLike t u → AreLike u t
 like-back t u h env x = ((h env x).1, (h env x).0)
 
 pub composites-like : (ts us ws : Tys) → AreAllLike (composites ts us) ws → AreAllLike ts ws
-composites-like (MoreTys t ts) (MoreTys u us) (MoreTys w ws) h = (like-then t (composite t u) w (like-back (composite t u) t (composite-like t u)) h.0, composites-like ts us ws h.1)
+composites-like (MoreTys t ts) (MoreTys u us) (MoreTys w ws) h = (like-then t (composite_of t u) w (like-back (composite_of t u) t (composite-like t u)) h.0, composites-like ts us ws h.1)
 composites-like (MoreTys t ts) (MoreTys u us) NoTys h = absurd h
 composites-like (MoreTys t ts) NoTys ws h = h
 composites-like NoTys us ws h = h
 
 -- what has the signature of the composite type has that of the older one
-composite-signed : (w r s : Ty) (ts us : Tys) → IsSignature w (composite r s) (composites ts us) → IsSignature w r ts
-composite-signed (FunctionTy x xs false) r s ts us h = (like-then x (composite r s) r h.0 (composite-like r s), composites-like ts us xs h.1)
+composite-signed : (w r s : Ty) (ts us : Tys) → IsSignature w (composite_of r s) (composites ts us) → IsSignature w r ts
+composite-signed (FunctionTy x xs false) r s ts us h = (like-then x (composite_of r s) r h.0 (composite-like r s), composites-like ts us xs h.1)
 composite-signed (FunctionTy x xs true) r s ts us h = absurd h
 composite-signed VoidTy r s ts us h = absurd h
 composite-signed (IntTy k) r s ts us h = absurd h
@@ -106,7 +106,7 @@ same-signs t w h r ts e = h r ts e
 
 -- 6.7.9p22: an array of unknown size gets one, and what is complete stays as it is
 pub size-sized : (es : List Entry) (t : Ty) (n : ℕ)
-    → or_zero (if is_complete_in es t then up_to (layout_in es t).size else None) ≤ or_zero (if is_complete_in es (sized t n) then up_to (layout_in es (sized t n)).size else None)
+    → or_zero (if is_complete_in es t then up_to (layout_in es t).size else None) ≤ or_zero (if is_complete_in es (with_size t n) then up_to (layout_in es (with_size t n)).size else None)
 size-sized es (ArrayOf t None) n = omega arith
 size-sized es (ArrayOf t (Some m)) n = omega arith
 size-sized es VoidTy n = omega arith
@@ -228,19 +228,19 @@ module _ (v : WholeUnit) where
   function-parts : (r q : Ty) (ts qs : Tys) (c : Bool) → FunctionTy r ts c ≡ FunctionTy q qs false → (r ≡ q) × (ts ≡ qs) × (c ≡ false)
   function-parts r q ts qs c e = (cc, cc, cc)
 
-  pub composite-signs : (t u : Ty) → Signs t (composite t u)
+  pub composite-signs : (t u : Ty) → Signs t (composite_of t u)
   composite-signs (FunctionTy r ts c) (FunctionTy s us d) w h q qs e =
       let p = function-parts r q ts qs c e in
-      let k = composite-signed w r s ts us (h (composite r s) (composites ts us) (ap (FunctionTy (composite r s) (composites ts us)) p.2)) in
+      let k = composite-signed w r s ts us (h (composite_of r s) (composites ts us) (ap (FunctionTy (composite_of r s) (composites ts us)) p.2)) in
       subst (λ z. IsSignature w z qs) p.0 (subst (λ z. IsSignature w r z) p.1 k)
   composite-signs (PointerTo t) (PointerTo u) w h q qs e = absurd cc
   composite-signs (ArrayOf t m) (ArrayOf u n) w h q qs e = absurd cc
   composite-signs (ConstOf t) (ConstOf u) w h q qs e = absurd cc
   composite-signs _ _ w h q qs e = h q qs e
 
-  pub function-type-later : (f : ℕ) (t : Ty) (s : State) → Later (with_function_type f (composite (function_at s.unit f).t t) s) v → Later s v
+  pub function-type-later : (f : ℕ) (t : Ty) (s : State) → Later (with_function_type f (composite_of (function_at s.unit f).t t) s) v → Later s v
   function-type-later f t s l =
-      with-function-later f (record (function_at s.unit f) { t = composite (function_at s.unit f).t t }) s refl (composite-signs (function_at s.unit f).t t) l
+      with-function-later f (record (function_at s.unit f) { t = composite_of (function_at s.unit f).t t }) s refl (composite-signs (function_at s.unit f).t t) l
 
   -- 6.2.1p7: a new function
   pub new-function-later : (n line : ℕ) (t : Ty) (s : State) → Later (new_function n line t s) v → Later s v

@@ -5,7 +5,7 @@ use Rattle.std.proofs.lemmas.Bool.{eqb-true, eq-eqb}
 use Rattle.std.specs.Prelude.{if◌then◌else◌, nat_lt, nat_eq}
 use Rattle.std.specs.Cmp.Lexicographic.{pointwise}
 use Rattle.std.specs.Bool.{beq}
-use Rattle.pv_types.specs.Sorts.{bare}
+use Rattle.pv_types.specs.Sorts.{bare_type}
 use Rattle.pv_num.specs.declared.kinds.IntKind.TheVariants.{Int}
 use Rattle.pv_token.specs.Table.{Table}
 use Rattle.pv_tree.specs.Syntax.{DeclarationTree, Function as FunctionTree, Declaration, InitDeclarator, MemberDeclaration, Enumerator, Parameter, TypeName}
@@ -23,8 +23,8 @@ use Rattle.pv_unit.specs.Definitions.{entity_type, is_finished, may_end, is_defi
 use Rattle.pv_unit.specs.HeadParts.{are_finished}
 use Rattle.pv_unit.specs.Redeclarations.{Entity, UnitState, unit_name, is_entity}
 use Rattle.pv_unit.specs.Functions.{typed_declaration, typed_external}
-use Rattle.pv_unit.specs.FunctionParts.{counted_state, counted}
-use Rattle.pv_unit.specs.Units.{typed_first, typed_last, typed_to, uses, is_unresolved, unresolved, has_main, statics_from, first, points, placed_from, finished, Typed, IsTyped, UnitComes}
+use Rattle.pv_unit.specs.FunctionParts.{counted_state, with_one_external}
+use Rattle.pv_unit.specs.Units.{typed_first, typed_last, typed_to, uses, is_unresolved, first_unresolved, has_main, statics_from, unit_at_first, points, placed_from, finished_unit, Typed, IsTyped, UnitComes}
 use Rattle.pv_unit.specs.UnitParts.{is_used, is_of_library, is_main_function, has_main_in, is_pointed}
 use Rattle.pv_unit.proofs.NamedUnits.{unit_names}
 use Rattle.pv_eval.specs.Objects.{heap_name}
@@ -98,7 +98,7 @@ module _ (v : WholeUnit) (done : IsFinished v) (apart : (o : ℕ) → (object_at
 
   external-goes : (d : DeclarationTree) (u w : UnitState) → DeclarationCharacters d → IsUnit v None u → typed_external d u ≡ Some w → Goes U v None u w
   external-goes d u w c i e =
-      let a = from-some (typed_declaration d u) counted w e in
+      let a = from-some (typed_declaration d u) with_one_external w e in
       let g = declaration-step d u a.0 c i a.1 in
       subst (Goes U v None u) (some-same (record a.0 { state = counted_state a.0.state }) w a.2) (then-goes U v None u a.0 (record a.0 { state = counted_state a.0.state }) g (counted-goes a.0 g.unit))
 
@@ -130,7 +130,7 @@ typed-whole ds u w e =
 
 -- ---- before the first declaration
 
-first-unit : (v : WholeUnit) (t : Table) → AreTexts t.texts → IsUnit v None (first t)
+first-unit : (v : WholeUnit) (t : Table) → AreTexts t.texts → IsUnit v None (unit_at_first t)
 first-unit v t h = record {
   file = refl;
   evaluated = refl;
@@ -142,7 +142,7 @@ first-unit v t h = record {
   found = record { found = λ f lt. absurd (omega (arith, lt)); apart = λ f g lt few q. absurd (omega (arith, lt)) };
 }
 
-first-is : (v : WholeUnit) (t : Table) → UnitIs v (first t)
+first-is : (v : WholeUnit) (t : Table) → UnitIs v (unit_at_first t)
 first-is v t = record {
   proper = record { unit = record { objects = tt; functions = λ f lt. absurd (omega (arith, lt)); completed = tt }; some = omega arith; scopes = (((tt, tt)), tt) };
   objects = λ g o lt. absurd (omega (arith, lt));
@@ -152,11 +152,11 @@ first-is v t = record {
 -- ---- names that are defined (6.9p5)
 
 -- no expression names what isn't defined
-each-resolved : (s : State) (es : List Entity) → unresolved s es ≡ None → Each (λ e. is_unresolved s e ≡ false) es
+each-resolved : (s : State) (es : List Entity) → first_unresolved s es ≡ None → Each (λ e. is_unresolved s e ≡ false) es
 each-resolved s [] e = tt
 each-resolved s (x ∷ es) e = by (each-resolved s es) (is_unresolved s x) refl e
   where
-    by : (unresolved s es ≡ None → Each (λ e. is_unresolved s e ≡ false) es) → (b : Bool) → is_unresolved s x ≡ b → (if b then Some x.name else unresolved s es) ≡ None → Each (λ e. is_unresolved s e ≡ false) (x ∷ es)
+    by : (first_unresolved s es ≡ None → Each (λ e. is_unresolved s e ≡ false) es) → (b : Bool) → is_unresolved s x ≡ b → (if b then Some x.name else first_unresolved s es) ≡ None → Each (λ e. is_unresolved s e ≡ false) (x ∷ es)
     by rest true q e = absurd cc
     by rest false q e = (q, rest e)
 
@@ -175,7 +175,7 @@ defined-or true false false e p q = absurd cc
 defined-or true false true e p q = absurd cc
 defined-or false b c e p q = absurd cc
 
-module _ (u : UnitState) (v : WholeUnit) (i : IsUnit v None u) (resolved : unresolved u.state u.entities ≡ None) where
+module _ (u : UnitState) (v : WholeUnit) (i : IsUnit v None u) (resolved : first_unresolved u.state u.entities ≡ None) where
   function-bodied : (es : List Entity) → Each (IsEntityOf None u.state.unit) es → Each (λ e. is_unresolved u.state e ≡ false) es → (f : ℕ) → HasEntity true f es → is_used true f u.state.used ≡ true → library_of u.state.unit f ≡ None
       → is_some (function_at u.state.unit f).body ≡ true
   function-bodied (e ∷ es) h r f (inl q) used none =
@@ -324,9 +324,9 @@ signed-itself t ts = ((λ env w. ((λ h. h), (λ h. h))), all ts)
     all NoTys = tt
     all (MoreTys t ts) = ((λ env w. ((λ h. h), (λ h. h))), all ts)
 
-module _ (u : UnitState) (w : WholeUnit) (i : IsUnit w None u) (resolved : unresolved u.state u.entities ≡ None) where
+module _ (u : UnitState) (w : WholeUnit) (i : IsUnit w None u) (resolved : first_unresolved u.state u.entities ≡ None) where
   abbrev end : WholeUnit
-  end = finished u
+  end = finished_unit u
 
   all-there : (xs : List Used) → ((b : Bool) (k : ℕ) → is_used b k xs ≡ true → is_used b k u.state.used ≡ true) → ((k : ℕ) → is_pointed k xs ≡ true → is_pointed k u.state.used ≡ true) → Each (IsKnownUse u.state.unit.names u.state.unit.functions) xs
       → Each (IsThere end) xs
@@ -466,10 +466,10 @@ end-complete s (e ∷ es) h o i d = by (λ j q. end-complete s es (both-true (is
     by rest false q (inr j) d = rest j d
 end-complete s [] h o i d = absurd i
 
-module _ (t : Table) (ds : List DeclarationTree) (u : UnitState) (typed : typed_first ds (first t) ≡ Some u) (resolved : unresolved u.state u.entities ≡ None) (chars : Each DeclarationCharacters ds) (texts : AreTexts t.texts)
-    (ends : are_finished u.state u.entities ≡ true) (names : (finished u).names ≡ literal_text ∷ heap_text ∷ t.names) (different : AreApart t.names) (main : has_main u.state.unit ≡ true) where
+module _ (t : Table) (ds : List DeclarationTree) (u : UnitState) (typed : typed_first ds (unit_at_first t) ≡ Some u) (resolved : first_unresolved u.state u.entities ≡ None) (chars : Each DeclarationCharacters ds) (texts : AreTexts t.texts)
+    (ends : are_finished u.state u.entities ≡ true) (names : (finished_unit u).names ≡ literal_text ∷ heap_text ∷ t.names) (different : AreApart t.names) (main : has_main u.state.unit ≡ true) where
   abbrev v : WholeUnit
-  v = finished u
+  v = finished_unit u
 
   -- a unit without tags, objects, functions and string literals: none of its types is large, no object of it has the name of allocations, and no
   -- function a body. So what typing keeps, whatever the unit at its end is, is known of each unit
@@ -486,7 +486,7 @@ module _ (t : Table) (ds : List DeclarationTree) (u : UnitState) (typed : typed_
   w-done = record { filled = laid-none.filled; small = laid-none.small; texts = λ l. omega arith }
 
   first-run : IsUnit w None u
-  first-run = (first-goes w w-done w-apart w-fixed ds (first t) u chars (first-unit w t texts) typed).unit
+  first-run = (first-goes w w-done w-apart w-fixed ds (unit_at_first t) u chars (first-unit w t texts) typed).unit
 
   apart : (o : ℕ) → (object_at v o).name ≢ heap_name
   apart o = each-at IsApart no_object v.objects o (λ e. absurd cc) first-run.orderly.apart
@@ -507,8 +507,8 @@ module _ (t : Table) (ds : List DeclarationTree) (u : UnitState) (typed : typed_
   later : Later u.state v
   later = end-later u w first-run resolved
 
-  run : Goes U v None (first t) u
-  run = first-goes v done apart fixed ds (first t) u chars (first-unit v t texts) typed
+  run : Goes U v None (unit_at_first t) u
+  run = first-goes v done apart fixed ds (unit_at_first t) u chars (first-unit v t texts) typed
 
   is : UnitIs v u
   is = run.is tt later (first-is v t)
@@ -594,7 +594,7 @@ module _ (t : Table) (ds : List DeclarationTree) (u : UnitState) (typed : typed_
   unit-typed = record {
     functions = λ f r ts lt e. record {
       result = result-is r (function-result v (library_of u.state.unit f) (function_at v f).t r ts (is.proper.unit.functions f lt) e);
-      main = λ q. let k : FunctionTy r ts false ≡ FunctionTy (IntTy Int) NoTys false = sym e ∙ (run.unit.functions f lt).main q in let same : r ≡ IntTy Int = cc in ap bare same;
+      main = λ q. let k : FunctionTy r ts false ≡ FunctionTy (IntTy Int) NoTys false = sym e ∙ (run.unit.functions f lt).main q in let same : r ≡ IntTy Int = cc in ap bare_type same;
       definition = is.functions (λ o few none. refl) f lt r ts e;
     };
     main = λ f e.
@@ -612,13 +612,13 @@ module _ (t : Table) (ds : List DeclarationTree) (u : UnitState) (typed : typed_
 pub typed-unit : (t : Table) (ds : List DeclarationTree) (v : WholeUnit) → UnitComes t ds (Typed v) → AreApart t.names → AreTexts t.texts → Each DeclarationCharacters ds → IsTypedUnit v
 typed-unit t ds v c different texts chars =
     let u = c.0 in
-    let z = typed-whole ds (first t) u c.1.0 in
+    let z = typed-whole ds (unit_at_first t) u c.1.0 in
     let whole = c.1.3 in
     subst IsTypedUnit (sym whole) (
     unit-typed t ds u z.0 c.1.1 chars texts (ends ds u z.0 z.1) (subst (λ (x : WholeUnit). x.names ≡ literal_text ∷ heap_text ∷ t.names) whole (unit_names t ds v c)) different c.1.2)
   where
-    ends : (ds : List DeclarationTree) (u : UnitState) → typed_first ds (first t) ≡ Some u → (ds ≡ []) ⊎ (may_end u ≡ true) → are_finished u.state u.entities ≡ true
+    ends : (ds : List DeclarationTree) (u : UnitState) → typed_first ds (unit_at_first t) ≡ Some u → (ds ≡ []) ⊎ (may_end u ≡ true) → are_finished u.state u.entities ≡ true
     ends ds u f (inl e) =
-        let same : first t ≡ u = some-same (first t) u (subst (λ es. typed_first es (first t) ≡ Some u) e f) in
+        let same : unit_at_first t ≡ u = some-same (unit_at_first t) u (subst (λ es. typed_first es (unit_at_first t) ≡ Some u) e f) in
         subst (λ (w : UnitState). are_finished w.state w.entities ≡ true) same refl
     ends ds u f (inr m) = (both-true (not u.unsized_typedef) (are_finished u.state u.entities) m).1

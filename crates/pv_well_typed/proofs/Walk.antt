@@ -16,24 +16,24 @@ use Rattle.pv_typed.specs.declared.nodes.IncrementOperator.TheVariants as step_w
 use Rattle.pv_check.specs.Assignment.{assign_of, comma_of}
 use Rattle.pv_check.specs.Binary.{binary_of}
 use Rattle.pv_check.specs.Conditional.{conditional_of}
-use Rattle.pv_check.specs.Derivations.{size_of, Parameter as OneParameter, Steps, Derivation, ByPointer, ByArray, ByFunction, no_steps, with_step, declared_name, optional_name, may_be_variadic, is_printf_declarator, Signature, proper, parameter_types, with_function, with_parameter, derived, adjusted}
+use Rattle.pv_check.specs.Derivations.{size_of, Parameter as OneParameter, Steps, Derivation, ByPointer, ByArray, ByFunction, no_steps, with_step, declared_name, optional_name, may_be_variadic, is_printf_declarator, Signature, proper_parameters, parameter_types, with_function, with_parameter, derived_type, adjustment_of}
 use Rattle.pv_check.specs.Postfix.{subscript_of, member_from, arrow_from, increment_of}
 use Rattle.pv_library.specs.LibraryNames.{library_named}
 use Rattle.pv_check.specs.Primary.{with_use, name_of, integer_of}
 use Rattle.pv_check.specs.PrimaryParts.{used_function, designator_of, is_of_library, character_of}
 use Rattle.pv_check.specs.StringLiterals.{bytes_of_text, text_of}
-use Rattle.pv_check.specs.Rows.{operand, integer_value, unevaluated, after_sizeof, callee, Callee, ByName, ByValue, called_by, call_by, plain, member_of}
+use Rattle.pv_check.specs.Rows.{operand, integer_value, within_sizeof, after_sizeof, callee, Callee, ByName, ByValue, called_by, call_by, type_without_storage, member_of}
 use Rattle.pv_check.specs.RowParts.{known_size, by_pointer, by_array, named_type, parameter_of, with_argument, cast, with_callee, pointed_callee, by_function}
-use Rattle.pv_check.specs.Specifiers.{Seen, with_keyword, with_type, typedef_of, specified, nothing_seen}
+use Rattle.pv_check.specs.Specifiers.{Seen, with_keyword, with_type, typedef_of, specification_of, nothing_seen}
 use Rattle.pv_check.specs.SpecifierParts.{without_storage}
 use Rattle.pv_check.specs.State.{State, After, Scope, Meaning, ObjectName, FunctionName, TypedefOf, ConstantOf, Used, UsedObject, UsedFunction, give, env}
-use Rattle.pv_check.specs.Scopes.{no_scope, look, find, innermost, bind, entered, left, is_file_scope}
+use Rattle.pv_check.specs.Scopes.{no_scope, look, find, innermost_scope, bind, in_new_scope, behind_scope, is_file_scope}
 use Rattle.pv_typed.specs.Constants.{and_then}
 use Rattle.pv_check.specs.ScopeParts.{names_in}
-use Rattle.pv_check.specs.Tags.{is_union_word, with_member, completed, opened, closed_enumeration, tag_named, enumerated}
+use Rattle.pv_check.specs.Tags.{is_union_word, with_member, completion_of, tag_before_list, closed_enumeration, tag_named, enumerator_step}
 use Rattle.pv_check.specs.TagParts.{is_new_member, some_members}
 use Rattle.pv_check.specs.Typing.{types, arguments, type_named, specifiers, specifier_in, specifier, members, member_in, member_declarators, member_declarator, enumerators, enumerator_in, enumerator_value, steps, optional_steps, array_size, parameters, parameter_in}
-use Rattle.pv_check.specs.Values.{written}
+use Rattle.pv_check.specs.Values.{source_node}
 use Rattle.pv_check.specs.Unary.{unary_of, sizeof_type, cast_of}
 use Rattle.pv_guards.specs.Typed.{IsTyped}
 use Rattle.pv_well_typed.specs.Proper.{IsProper}
@@ -140,8 +140,8 @@ file-same : (ss ts : List Scope) → Outer ss ts → (length ts == 1) ≡ (lengt
 file-same ss ts o = ap (λ n. n == 1) o.deep
 
 -- a scope within others is not that of the file
-pub inner-file : (s : State) → 0 < length s.scopes → is_file_scope (entered s) ≡ false
-inner-file s h = by (is_file_scope (entered s)) refl
+pub inner-file : (s : State) → 0 < length s.scopes → is_file_scope (in_new_scope s) ≡ false
+inner-file s h = by (is_file_scope (in_new_scope s)) refl
   where
     by : (b : Bool) → (length (s.scopes ++ (no_scope ∷ [])) == 1) ≡ b → b ≡ false
     by false e = refl
@@ -235,7 +235,7 @@ module _ (v : WholeUnit) (os : List ℕ) (done : IsFinished v) where
   name-gives : (E : Type 0) (line n : ℕ) (s : State) → Sees E v os s → (m : Option Meaning) → look s.scopes n ≡ m → Gives U v os U s (IsTree E v os) (name_of line m s)
   name-gives E line n s sees None e = gives-none U v os U s (IsTree E v os)
   name-gives E line n s sees (Some (ObjectName o)) e =
-      gives-some U v os U s (IsTree E v os) (record { value = written line (object_at s.unit o).t (Object o); state = with_use s (UsedObject o) }) (use-moves U s (UsedObject o) (λ h. tt))
+      gives-some U v os U s (IsTree E v os) (record { value = source_node line (object_at s.unit o).t (Object o); state = with_use s (UsedObject o) }) (use-moves U s (UsedObject o) (λ h. tt))
       (λ l p g. (use-proper v s (UsedObject o) g, object-row E v os line o s g l (λ i. visible-meaning v os s.scopes (sees i).1 n (ObjectName o) e), none-made v s (with_use s (UsedObject o)) refl))
   name-gives E line n s sees (Some (FunctionName f)) e =
       gives-unless U v os U s (IsTree E v os) (is_of_library s f) (Some (designator_of line f s))
@@ -247,8 +247,8 @@ module _ (v : WholeUnit) (os : List ℕ) (done : IsFinished v) where
       )))
   name-gives E line n s sees (Some (TypedefOf t)) e = gives-none U v os U s (IsTree E v os)
   name-gives E line n s sees (Some (ConstantOf k)) e =
-      gives-here U v os U s (IsTree E v os) (Some (written line (IntTy Int) (Constant k)))
-      (λ x q l p g. as-made (IsExpression E v os) (written line (IntTy Int) (Constant k)) x (record { typed = λ i. (Int, refl, name-meaning v s g n (ConstantOf k) e); proper = tt; valued = λ z. (refl, tt) }) q)
+      gives-here U v os U s (IsTree E v os) (Some (source_node line (IntTy Int) (Constant k)))
+      (λ x q l p g. as-made (IsExpression E v os) (source_node line (IntTy Int) (Constant k)) x (record { typed = λ i. (Int, refl, name-meaning v s g n (ConstantOf k) e); proper = tt; valued = λ z. (refl, tt) }) q)
 
   text-gives : (E : Type 0) (line : ℕ) (bytes : List ℕ) (s : State) → Sees E v os s → (Orderly s → IsText bytes) → Gives U v os U s (IsTree E v os) (Some (text_of line bytes s))
   text-gives E line bytes s sees good =
@@ -291,13 +291,13 @@ module _ (v : WholeUnit) (os : List ℕ) (done : IsFinished v) where
 
   -- ---- 6.5.3.4: sizeof, whose operand is not evaluated
 
-  before-orderly : (s : State) → Orderly s → Orderly (unevaluated s)
+  before-orderly : (s : State) → Orderly s → Orderly (within_sizeof s)
   before-orderly s h = record { names = h.names; uses = h.uses; sources = h.sources; written = h.written; ended = h.ended; laid = h.laid; apart = h.apart }
 
   after-orderly : (s t : State) → Orderly t → Orderly (after_sizeof s t)
   after-orderly s t h = record { names = h.names; uses = h.uses; sources = h.sources; written = h.written; ended = h.ended; laid = h.laid; apart = h.apart }
 
-  after-moves : (s t : State) → Moves U v os (unevaluated s) t → Moves U v os s (after_sizeof s t)
+  after-moves : (s t : State) → Moves U v os (within_sizeof s) t → Moves U v os s (after_sizeof s t)
   after-moves s t m = record {
     later = λ l. let k = m.later (record { unit = l.unit; used = l.used }) in record { unit = k.unit; used = k.used };
     outer = m.outer;
@@ -312,7 +312,7 @@ module _ (v : WholeUnit) (os : List ℕ) (done : IsFinished v) where
     older = m.older;
   }
 
-  sizeof-gives : {A : Type 0} (E : Type 0) (line : ℕ) (s : State) (Q : After A → Type 0) (o : Option (After A)) (t : After A → Ty) → Gives U v os U (unevaluated s) Q o → ((a : After A) → Q a → is_function (t a) ≡ false → IsProper v (t a))
+  sizeof-gives : {A : Type 0} (E : Type 0) (line : ℕ) (s : State) (Q : After A → Type 0) (o : Option (After A)) (t : After A → Ty) → Gives U v os U (within_sizeof s) Q o → ((a : After A) → Q a → is_function (t a) ≡ false → IsProper v (t a))
       → Gives U v os U s (IsTree E v os) (and_then o (λ a. give (sizeof_type (env a.state) line (t a)) (after_sizeof s a.state)))
   sizeof-gives E line s Q None t h k = gives-none U v os U s (IsTree E v os)
   sizeof-gives {A} E line s Q (Some a) t h k =
@@ -320,7 +320,7 @@ module _ (v : WholeUnit) (os : List ℕ) (done : IsFinished v) where
       (λ l p g. let z = r.1 (record { unit = l.unit; used = l.used }) tt (record { unit = g.unit; some = g.some; scopes = g.scopes }) in (record { unit = z.0.unit; some = z.0.some; scopes = z.0.scopes }, z.1, z.2))
       (gives-here U v os (Q a) (after_sizeof s a.state) (IsTree E v os) (sizeof_type (env a.state) line (t a)) (λ x e l p g. sizeof-row E v os done (env a.state) l.unit.layouts line (t a) (k a p) x e))
     where
-      r : Moves U v os (unevaluated s) a.state × (Later a.state v → U → IsProperState v (unevaluated s) → IsProperState v a.state × Q a × HasMade v (unevaluated s) a.state)
+      r : Moves U v os (within_sizeof s) a.state × (Later a.state v → U → IsProperState v (within_sizeof s) → IsProperState v a.state × Q a × HasMade v (within_sizeof s) a.state)
       r = h.held a refl
 
   -- ---- 6.7.6.3: a list of parameters
@@ -329,29 +329,29 @@ module _ (v : WholeUnit) (os : List ℕ) (done : IsFinished v) where
   abbrev pub AreBefore : (file c : Bool) → Steps → Type 0
   AreBefore file c x = IsSteps file v x × (c ≡ true → (file ≡ true) × (x.list ≡ []))
 
-  list-gives : (c : Bool) (x : Steps) (s : State) (o : Option (After (List OneParameter))) (file : Bool) → Gives ⊥ v os (is_file_scope (entered s) ≡ false) (entered s) (ParametersProper v) o
+  list-gives : (c : Bool) (x : Steps) (s : State) (o : Option (After (List OneParameter))) (file : Bool) → Gives ⊥ v os (is_file_scope (in_new_scope s) ≡ false) (in_new_scope s) (ParametersProper v) o
       → Gives U v os (AreBefore file c x) s (λ a. IsSteps file v a.value) (and_then o (by_function c x))
   list-gives c x s None file h = gives-none U v os (AreBefore file c x) s (λ a. IsSteps file v a.value)
-  list-gives c x s (Some a) file h = by (proper c a.value)
+  list-gives c x s (Some a) file h = by (proper_parameters c a.value)
     where
-      r : Moves ⊥ v os (entered s) a.state × (Later a.state v → is_file_scope (entered s) ≡ false → IsProperState v (entered s) → IsProperState v a.state × ParametersProper v a × HasMade v (entered s) a.state)
+      r : Moves ⊥ v os (in_new_scope s) a.state × (Later a.state v → is_file_scope (in_new_scope s) ≡ false → IsProperState v (in_new_scope s) → IsProperState v a.state × ParametersProper v a × HasMade v (in_new_scope s) a.state)
       r = h.held a refl
 
       by : (o : Option (List OneParameter))
-          → Gives U v os (AreBefore file c x) s (λ a. IsSteps file v a.value) (and_then (and_then o (λ ps. give (Some (made_signature c (innermost a.state.scopes) ps)) (left a.state))) (λ g. give (Some (with_function x g.value)) g.state))
+          → Gives U v os (AreBefore file c x) s (λ a. IsSteps file v a.value) (and_then (and_then o (λ ps. give (Some (made_signature c (innermost_scope a.state.scopes) ps)) (behind_scope a.state))) (λ g. give (Some (with_function x g.value)) g.state))
       by None = gives-none U v os (AreBefore file c x) s (λ a. IsSteps file v a.value)
       by (Some ps) =
-          gives-some U v os (AreBefore file c x) s (λ a. IsSteps file v a.value) (record { value = with_function x (made_signature c (innermost a.state.scopes) ps); state = left a.state }) (left-moves ⊥ U v os s a.state r.0)
+          gives-some U v os (AreBefore file c x) s (λ a. IsSteps file v a.value) (record { value = with_function x (made_signature c (innermost_scope a.state.scopes) ps); state = behind_scope a.state }) (left-moves ⊥ U v os s a.state r.0)
           (λ l p g.
           let z = r.1 (record { unit = l.unit; used = l.used }) (inner-file s g.some) (entered-proper v s g) in
-          (left-proper v s a.state g.some r.0.outer z.0, steps-function file c v x (made_signature c (innermost a.state.scopes) ps) p.1 refl p.0, z.2))
+          (left-proper v s a.state g.some r.0.outer z.0, steps-function file c v x (made_signature c (innermost_scope a.state.scopes) ps) p.1 refl p.0, z.2))
 
   -- 6.7.6.3p7: one parameter more
   parameter-gives : (ps : List OneParameter) (n : Option (ℕ × ℕ)) (s : State) (t : Ty) → Gives ⊥ v os (Each (λ (p : OneParameter). IsProper v p.t) ps × IsProper v t) s (ParametersProper v) (with_parameter ps n s t)
   parameter-gives ps None s t =
       gives-some ⊥ v os (Each (λ (p : OneParameter). IsProper v p.t) ps × IsProper v t) s (ParametersProper v) (record { value = ps ++ (record { t = t; name = None; object = None } ∷ []); state = s }) (same-moves ⊥ v os s)
       (λ l p g. (g, each_append (λ (q : OneParameter). IsProper v q.t) ps (record { t = t; name = None; object = None } ∷ []) p.0 (p.1, tt), none-made v s s refl))
-  parameter-gives ps (Some (n, line)) s t = by (is_some (find (innermost s.scopes).names n))
+  parameter-gives ps (Some (n, line)) s t = by (is_some (find (innermost_scope s.scopes).names n))
     where
       by : (b : Bool)
           → Gives ⊥ v os (Each (λ (p : OneParameter). IsProper v p.t) ps × IsProper v t) s (ParametersProper v)
@@ -376,16 +376,16 @@ module _ (v : WholeUnit) (os : List ℕ) (done : IsFinished v) where
   member-gives : (k : Option (ℕ × ℕ)) (t : Ty) (ms : List Named) (a : After Steps) → Gives U v os ((IsProper v t × Each (IsMember v (env a.state)) ms) × IsPlainBehind v a.value.list) a.state (HasMembers U v os) (member_of k t ms a)
   member-gives None t ms a = gives-none U v os ((IsProper v t × Each (IsMember v (env a.state)) ms) × IsPlainBehind v a.value.list) a.state (HasMembers U v os)
   member-gives (Some (n, line)) t ms a =
-      gives-value U v os ((IsProper v t × Each (IsMember v (env a.state)) ms) × IsPlainBehind v a.value.list) a.state (HasMembers U v os) (derived false (env a.state) a.value.list t) (λ u. give (with_member a.state ms n u) a.state)
+      gives-value U v os ((IsProper v t × Each (IsMember v (env a.state)) ms) × IsPlainBehind v a.value.list) a.state (HasMembers U v os) (derived_type false (env a.state) a.value.list t) (λ u. give (with_member a.state ms n u) a.state)
       (λ u d. gives-here U v os ((IsProper v t × Each (IsMember v (env a.state)) ms) × IsPlainBehind v a.value.list) a.state (HasMembers U v os) (with_member a.state ms n u)
       (λ x e l p g. by u x (λ f. derived-named v (env a.state) l.unit.layouts false a.value.list t u p.1 p.0.0 d f) p.0.1 (is_complete_in (env a.state) u && is_new_member n ms) refl e))
     where
       by : (u : Ty) (x : List Named) → (is_function u ≡ false → IsProper v u) → Each (IsMember v (env a.state)) ms → (b : Bool) → (is_complete_in (env a.state) u && is_new_member n ms) ≡ b
           → (if b then Some (ms ++ (record { name = n; t = u } ∷ [])) else None) ≡ Some x → Each (IsMember v (env a.state)) x
-      by u x proper all true q e =
+      by u x proper_parameters all true q e =
           let complete = (both-true (is_complete_in (env a.state) u) (is_new_member n ms) q).0 in
-          as-made (Each (IsMember v (env a.state))) (ms ++ (record { name = n; t = u } ∷ [])) x (each_append (IsMember v (env a.state)) ms (record { name = n; t = u } ∷ []) all ((proper (no-function (env a.state) u complete), complete), tt)) e
-      by u x proper all false q e = absurd cc
+          as-made (Each (IsMember v (env a.state))) (ms ++ (record { name = n; t = u } ∷ [])) x (each_append (IsMember v (env a.state)) ms (record { name = n; t = u } ∷ []) all ((proper_parameters (no-function (env a.state) u complete), complete), tt)) e
+      by u x proper_parameters all false q e = absurd cc
 
   -- ---- 6.7: types by name, what they end with
 
@@ -406,10 +406,10 @@ module _ (v : WholeUnit) (os : List ℕ) (done : IsFinished v) where
   no-steps file = record { behind = tt; inner = λ f. tt }
 
   plain-gives : {B : Type 0} (P : Type 0) (a : After Seen) (R : After B → Type 0) (f : After Ty → Option (After B)) → (P → HasProperName v a.value.named)
-      → ((b : After Ty) → Moves U v os a.state b.state → Gives U v os (P × IsProper v b.value) b.state R (f b)) → Gives U v os P a.state R (and_then (plain a) f)
+      → ((b : After Ty) → Moves U v os a.state b.state → Gives U v os (P × IsProper v b.value) b.state R (f b)) → Gives U v os P a.state R (and_then (type_without_storage a) f)
   plain-gives P a R f h k =
-      gives-then U v os P a.state (λ (b : After Ty). IsProper v b.value) R (plain a) f
-      (gives-here U v os P a.state (λ (b : After Ty). IsProper v b.value) (and_then (specified a.value) without_storage) (λ t e l p g. plain-proper v a.value t (h p) e)) k
+      gives-then U v os P a.state (λ (b : After Ty). IsProper v b.value) R (type_without_storage a) f
+      (gives-here U v os P a.state (λ (b : After Ty). IsProper v b.value) (and_then (specification_of a.value) without_storage) (λ t e l p g. plain-proper v a.value t (h p) e)) k
 
   pointer-gives : (file : Bool) (consts : ℕ) (s : State) (o : Option (After Steps)) → Gives U v os U s (AreSteps file) o → Gives U v os U s (AreSteps file) (and_then o (by_pointer consts))
   pointer-gives file consts s o h =
@@ -435,11 +435,11 @@ module _ (v : WholeUnit) (os : List ℕ) (done : IsFinished v) where
   constant-gives s o h = gives-integer ⊥ U v os done U s (IsValue ⊥ v os) (operand o) (gives-operand ⊥ U v os done U s o h)
 
   function-gives : (file c : Bool) (s : State) (o : Option (After Steps)) (list : State → Option (After (List OneParameter))) → Gives U v os U s (λ a. AreBefore file c a.value) o
-      → ((t : State) → Gives ⊥ v os (is_file_scope t ≡ false) t (ParametersProper v) (list t)) → Gives U v os U s (AreSteps file) (and_then o (λ a. and_then (list (entered a.state)) (by_function c a.value)))
+      → ((t : State) → Gives ⊥ v os (is_file_scope t ≡ false) t (ParametersProper v) (list t)) → Gives U v os U s (AreSteps file) (and_then o (λ a. and_then (list (in_new_scope a.state)) (by_function c a.value)))
   function-gives file c s o list h k =
-      gives-then U v os U s (λ a. AreBefore file c a.value) (AreSteps file) o (λ a. and_then (list (entered a.state)) (by_function c a.value)) h
-      (λ a m. gives-weaker U U (AreBefore file c a.value) (U × AreBefore file c a.value) v os a.state (AreSteps file) (AreSteps file) (and_then (list (entered a.state)) (by_function c a.value)) (λ f. f) (λ p. p.1) (λ x q. q)
-      (list-gives c a.value a.state (list (entered a.state)) file (k (entered a.state))))
+      gives-then U v os U s (λ a. AreBefore file c a.value) (AreSteps file) o (λ a. and_then (list (in_new_scope a.state)) (by_function c a.value)) h
+      (λ a m. gives-weaker U U (AreBefore file c a.value) (U × AreBefore file c a.value) v os a.state (AreSteps file) (AreSteps file) (and_then (list (in_new_scope a.state)) (by_function c a.value)) (λ f. f) (λ p. p.1) (λ x q. q)
+      (list-gives c a.value a.state (list (in_new_scope a.state)) file (k (in_new_scope a.state))))
 
   less-named : (d : DeclaratorTree) (s : State) (o : Option (After Steps)) → Gives U v os U s (AreNamedSteps (is_file_scope s) d) o → Gives U v os U s (AreSteps (is_file_scope s)) o
   less-named d s o h = gives-weaker U U U U v os s (AreNamedSteps (is_file_scope s) d) (AreSteps (is_file_scope s)) o (λ f. f) (λ p. p) (λ a q. q.0) h
@@ -465,10 +465,10 @@ module _ (v : WholeUnit) (os : List ℕ) (done : IsFinished v) where
   with-parameter-gives : (n : Option (ℕ × ℕ)) (t : Ty) (ps : List OneParameter) (a : After Steps) (P : Type 0) (file : Bool) → (P → Each (λ (q : OneParameter). IsProper v q.t) ps × IsProper v t × IsSteps file v a.value × (file ≡ false))
       → Gives ⊥ v os P a.state (ParametersProper v) (parameter_of n t ps a)
   with-parameter-gives n t ps a P file h =
-      gives-value ⊥ v os P a.state (ParametersProper v) (and_then (derived true (env a.state) a.value.list t) adjusted) (with_parameter ps n a.state)
+      gives-value ⊥ v os P a.state (ParametersProper v) (and_then (derived_type true (env a.state) a.value.list t) adjustment_of) (with_parameter ps n a.state)
       (λ u e. gives-from ⊥ v os P (Each (λ (q : OneParameter). IsProper v q.t) ps × IsProper v u) a.state a.state (ParametersProper v) (with_parameter ps n a.state u) (same-moves ⊥ v os a.state)
       (λ l p g.
-      let f = from-some (derived true (env a.state) a.value.list t) adjusted u e in
+      let f = from-some (derived_type true (env a.state) a.value.list t) adjustment_of u e in
       let k = h p in
       (g, (k.0, adjusted-proper v f.0 u (derived-proper v (env a.state) l.unit.layouts true a.value.list t f.0 (k.2.inner k.3) k.1 f.1) f.2), none-made v a.state a.state refl))
       (parameter-gives ps n a.state u))
@@ -513,9 +513,9 @@ module _ (v : WholeUnit) (os : List ℕ) (done : IsFinished v) where
         one-gives (IsOn on) s (IsExpression (IsOn on) v os) (types a s) (λ t x. unary_of (env t) line op x) (types-gives a on s sees h)
         (λ t x l g p y e. unary-row (IsOn on) v os done (env t) l.unit.layouts line op x p y e)
     types-gives (SizeofExpr line a) on s sees h =
-        sizeof-gives (IsOn on) line s (IsTree ⊥ v os) (types a (unevaluated s)) (λ x. type_of x.value) (types-gives a false (unevaluated s) (λ i. absurd i) (λ i. absurd i)) (λ x p f. p.proper)
+        sizeof-gives (IsOn on) line s (IsTree ⊥ v os) (types a (within_sizeof s)) (λ x. type_of x.value) (types-gives a false (within_sizeof s) (λ i. absurd i) (λ i. absurd i)) (λ x p f. p.proper)
     types-gives (SizeofType line t) on s sees h =
-        sizeof-gives (IsOn on) line s IsNamedType (type_named t (unevaluated s)) (λ x. x.value) (type-gives t (unevaluated s)) (λ x p f. p f)
+        sizeof-gives (IsOn on) line s IsNamedType (type_named t (within_sizeof s)) (λ x. x.value) (type-gives t (within_sizeof s)) (λ x p f. p f)
     types-gives (Cast line t a) on s sees h =
         gives-then U v os U s IsNamedType (IsTree (IsOn on) v os) (type_named t s) (λ u. and_then (operand (types a u.state)) (cast line u.value)) (type-gives t s)
         (λ u m. gives-then U v os (U × IsNamedType u) u.state (IsValue (IsOn on) v os) (IsTree (IsOn on) v os) (operand (types a u.state)) (cast line u.value)
@@ -554,11 +554,11 @@ module _ (v : WholeUnit) (os : List ℕ) (done : IsFinished v) where
 
     pub type-gives : (t : DeclarationTree) (s : State) → Gives U v os U s IsNamedType (type_named t s)
     type-gives (TypeName line specs d) s =
-        gives-then U v os U s IsSeen IsNamedType (specifiers specs s) (λ a. and_then (plain a) (λ b. and_then (optional_steps d b.state) (named_type b.value))) (specifiers-give specs s)
+        gives-then U v os U s IsSeen IsNamedType (specifiers specs s) (λ a. and_then (type_without_storage a) (λ b. and_then (optional_steps d b.state) (named_type b.value))) (specifiers-give specs s)
         (λ a i. plain-gives (U × IsSeen a) a IsNamedType (λ b. and_then (optional_steps d b.state) (named_type b.value)) (λ p. p.1)
         (λ b j. gives-then U v os ((U × IsSeen a) × IsProper v b.value) b.state (AreSteps (is_file_scope b.state)) IsNamedType (optional_steps d b.state) (named_type b.value)
         (any-premise U ((U × IsSeen a) × IsProper v b.value) b.state (AreSteps (is_file_scope b.state)) (optional_steps d b.state) (optional-give d b.state))
-        (λ c k. gives-here U v os (((U × IsSeen a) × IsProper v b.value) × IsSteps (is_file_scope b.state) v c.value) c.state IsNamedType (derived false (env c.state) c.value.list b.value)
+        (λ c k. gives-here U v os (((U × IsSeen a) × IsProper v b.value) × IsSteps (is_file_scope b.state) v c.value) c.state IsNamedType (derived_type false (env c.state) c.value.list b.value)
         (λ x e l p g f. derived-named v (env c.state) l.unit.layouts false c.value.list b.value x p.1.behind p.0.1 e f))))
     type-gives (FunctionTree line specs d b) s = gives-none U v os U s IsNamedType
     type-gives (Declaration line specs ds) s = gives-none U v os U s IsNamedType
@@ -589,16 +589,16 @@ module _ (v : WholeUnit) (os : List ℕ) (done : IsFinished v) where
         gives-then U v os (HasProperName v seen.named) s (HasProperType U v os) IsSeen (tag_named w n s) (λ a. give (with_type seen a.value) a.state) (tag-gives U v os (HasProperName v seen.named) w n s)
         (λ a m. gives-here U v os ((HasProperName v seen.named) × IsProper v a.value) a.state IsSeen (with_type seen a.value) (λ x e l p g. type-proper v seen a.value x e p.1))
     specifier-gives (Composite line w n ms) seen s =
-        gives-then U v os (HasProperName v seen.named) s (HasWord U v os (is_union_word w)) IsSeen (opened (is_union_word w) n s)
-        (λ o. and_then (and_then (members ms o.state) some_members) (λ m. and_then (completed (is_union_word w) n o.value m.value m.state) (λ a. give (with_type seen a.value) a.state)))
+        gives-then U v os (HasProperName v seen.named) s (HasWord U v os (is_union_word w)) IsSeen (tag_before_list (is_union_word w) n s)
+        (λ o. and_then (and_then (members ms o.state) some_members) (λ m. and_then (completion_of (is_union_word w) n o.value m.value m.state) (λ a. give (with_type seen a.value) a.state)))
         (opened-gives U v os (HasProperName v seen.named) (is_union_word w) n s)
         (λ o i. gives-behind U v os ((HasProperName v seen.named) × HasWord U v os (is_union_word w) o) o.state (HasMembers U v os) IsSeen (and_then (members ms o.state) some_members)
-        (λ m. and_then (completed (is_union_word w) n o.value m.value m.state) (λ a. give (with_type seen a.value) a.state))
+        (λ m. and_then (completion_of (is_union_word w) n o.value m.value m.state) (λ a. give (with_type seen a.value) a.state))
         (any-premise U ((HasProperName v seen.named) × HasWord U v os (is_union_word w) o) o.state (HasMembers U v os) (and_then (members ms o.state) some_members)
         (gives-then U v os U o.state (HasMembers U v os) (HasMembers U v os) (members ms o.state) some_members (members-give ms o.state)
         (λ m j. gives-weaker U U (HasMembers U v os m) (U × HasMembers U v os m) v os m.state (HasMembers U v os) (HasMembers U v os) (some_members m) (λ f. f) (λ p. p.1) (λ a q. q) (some-members-gives U v os m))))
-        (λ m e j. gives-then U v os (((HasProperName v seen.named) × HasWord U v os (is_union_word w) o) × HasMembers U v os m) m.state (HasProperType U v os) IsSeen (completed (is_union_word w) n o.value m.value m.state) (λ a. give (with_type seen a.value) a.state)
-        (gives-weaker U U (MayComplete U v os (is_union_word w) o.value m.value m.state) (((HasProperName v seen.named) × HasWord U v os (is_union_word w) o) × HasMembers U v os m) v os m.state (HasProperType U v os) (HasProperType U v os) (completed (is_union_word w) n o.value m.value m.state)
+        (λ m e j. gives-then U v os (((HasProperName v seen.named) × HasWord U v os (is_union_word w) o) × HasMembers U v os m) m.state (HasProperType U v os) IsSeen (completion_of (is_union_word w) n o.value m.value m.state) (λ a. give (with_type seen a.value) a.state)
+        (gives-weaker U U (MayComplete U v os (is_union_word w) o.value m.value m.state) (((HasProperName v seen.named) × HasWord U v os (is_union_word w) o) × HasMembers U v os m) v os m.state (HasProperType U v os) (HasProperType U v os) (completion_of (is_union_word w) n o.value m.value m.state)
         (λ f. f) (λ p. (p.0.1, p.1)) (λ a q. q)
         (let c = some-complete (members ms o.state) (λ a q. members-complete ms o.state a q) m e in completed-gives U v os (is_union_word w) n o.value m.value m.state c.0 c.1))
         (λ a k. gives-here U v os ((((HasProperName v seen.named) × HasWord U v os (is_union_word w) o) × HasMembers U v os m) × IsProper v a.value) a.state IsSeen (with_type seen a.value) (λ x e l p g. type-proper v seen a.value x e p.1))))
@@ -614,7 +614,7 @@ module _ (v : WholeUnit) (os : List ℕ) (done : IsFinished v) where
 
     pub member-in-gives : (x : Tree) (m : After (List Named)) → Gives U v os (HasMembers U v os m) m.state (HasMembers U v os) (member_in x m)
     member-in-gives (OfDeclaration (MemberDeclaration line specs ds)) m =
-        gives-then U v os (HasMembers U v os m) m.state IsSeen (HasMembers U v os) (specifiers specs m.state) (λ a. and_then (plain a) (λ b. member_declarators ds b.value m.value b.state)) (any-premise U (HasMembers U v os m) m.state IsSeen (specifiers specs m.state) (specifiers-give specs m.state))
+        gives-then U v os (HasMembers U v os m) m.state IsSeen (HasMembers U v os) (specifiers specs m.state) (λ a. and_then (type_without_storage a) (λ b. member_declarators ds b.value m.value b.state)) (any-premise U (HasMembers U v os m) m.state IsSeen (specifiers specs m.state) (specifiers-give specs m.state))
         (λ a i. plain-gives ((HasMembers U v os m) × IsSeen a) a (HasMembers U v os) (λ b. member_declarators ds b.value m.value b.state) (λ p. p.1)
         (λ b j. gives-weaker U U (IsProper v b.value × Each (IsMember v (env b.state)) m.value) (((HasMembers U v os m) × IsSeen a) × IsProper v b.value) v os b.state (HasMembers U v os) (HasMembers U v os) (member_declarators ds b.value m.value b.state) (λ f. f)
         (λ p. (p.1, members-grown v (env m.state) (env b.state) m.value (then-grows (env m.state) (env a.state) (env b.state) i.grows j.grows) p.0.0)) (λ c q. q) (declarators-give ds b.value m.value b.state)))
@@ -656,10 +656,10 @@ module _ (v : WholeUnit) (os : List ℕ) (done : IsFinished v) where
 
     member-in-complete : (x : Tree) (m r : After (List Named)) → HasCompleteMembers m → member_in x m ≡ Some r → HasCompleteMembers r
     member-in-complete (OfDeclaration (MemberDeclaration line specs ds)) m r h e =
-        let a = from-some (specifiers specs m.state) (λ a. and_then (plain a) (λ b. member_declarators ds b.value m.value b.state)) r e in
-        let b = from-some (plain a.0) (λ b. member_declarators ds b.value m.value b.state) r a.2 in
+        let a = from-some (specifiers specs m.state) (λ a. and_then (type_without_storage a) (λ b. member_declarators ds b.value m.value b.state)) r e in
+        let b = from-some (type_without_storage a.0) (λ b. member_declarators ds b.value m.value b.state) r a.2 in
         let first = (specifiers-give specs m.state).held a.0 a.1 in
-        let second = (gives-here U v os U a.0.state IsAnything (and_then (specified a.0.value) without_storage) (λ t q l p g. tt)).held b.0 b.1 in
+        let second = (gives-here U v os U a.0.state IsAnything (and_then (specification_of a.0.value) without_storage) (λ t q l p g. tt)).held b.0 b.1 in
         let more = then-grows (env m.state) (env a.0.state) (env b.0.state) first.0.grows second.0.grows in
         declarators-complete ds b.0.value m.value b.0.state r (complete-grown (env m.state) (env b.0.state) m.value more h) b.2
     member-in-complete (OfDeclaration _) m r h e = absurd cc
@@ -684,7 +684,7 @@ module _ (v : WholeUnit) (os : List ℕ) (done : IsFinished v) where
 
     pub enumerator-in-gives : (x : Tree) (a : After ℤ) → Gives U v os U a.state IsAnything (enumerator_in x a)
     enumerator-in-gives (OfDeclaration (Enumerator line n x)) a =
-        gives-then U v os U a.state IsAnything IsAnything (enumerator_value x a.value a.state) (λ b. enumerated n b.value b.state) (value-gives x a.value a.state) (λ b m. enumerated-gives U v os (U × U) n b.value b.state)
+        gives-then U v os U a.state IsAnything IsAnything (enumerator_value x a.value a.state) (λ b. enumerator_step n b.value b.state) (value-gives x a.value a.state) (λ b m. enumerated-gives U v os (U × U) n b.value b.state)
     enumerator-in-gives (OfDeclaration (FunctionTree line specs d b)) a = gives-none U v os U a.state IsAnything
     enumerator-in-gives (OfDeclaration (Declaration line specs ds)) a = gives-none U v os U a.state IsAnything
     enumerator-in-gives (OfDeclaration (InitDeclarator line d i)) a = gives-none U v os U a.state IsAnything
@@ -753,10 +753,10 @@ module _ (v : WholeUnit) (os : List ℕ) (done : IsFinished v) where
 
     pub parameter-in-gives : (x : Tree) (a : After (List OneParameter)) → Gives ⊥ v os ((is_file_scope a.state ≡ false) × ParametersProper v a) a.state (ParametersProper v) (parameter_in x a)
     parameter-in-gives (OfDeclaration (Parameter line specs d)) ps =
-        gives-then ⊥ v os ((is_file_scope ps.state ≡ false) × ParametersProper v ps) ps.state IsSeen (ParametersProper v) (specifiers specs ps.state) (λ a. and_then (plain a) (λ b. and_then (optional_steps d b.state) (parameter_of (optional_name d) b.value ps.value)))
+        gives-then ⊥ v os ((is_file_scope ps.state ≡ false) × ParametersProper v ps) ps.state IsSeen (ParametersProper v) (specifiers specs ps.state) (λ a. and_then (type_without_storage a) (λ b. and_then (optional_steps d b.state) (parameter_of (optional_name d) b.value ps.value)))
         (inner-gives ((is_file_scope ps.state ≡ false) × ParametersProper v ps) ps.state IsSeen (specifiers specs ps.state) (specifiers-give specs ps.state))
-        (λ a i. gives-then ⊥ v os (((is_file_scope ps.state ≡ false) × ParametersProper v ps) × IsSeen a) a.state (λ (b : After Ty). IsProper v b.value) (ParametersProper v) (plain a) (λ b. and_then (optional_steps d b.state) (parameter_of (optional_name d) b.value ps.value))
-        (gives-here ⊥ v os (((is_file_scope ps.state ≡ false) × ParametersProper v ps) × IsSeen a) a.state (λ (b : After Ty). IsProper v b.value) (and_then (specified a.value) without_storage) (λ t e l p g. plain-proper v a.value t p.1 e))
+        (λ a i. gives-then ⊥ v os (((is_file_scope ps.state ≡ false) × ParametersProper v ps) × IsSeen a) a.state (λ (b : After Ty). IsProper v b.value) (ParametersProper v) (type_without_storage a) (λ b. and_then (optional_steps d b.state) (parameter_of (optional_name d) b.value ps.value))
+        (gives-here ⊥ v os (((is_file_scope ps.state ≡ false) × ParametersProper v ps) × IsSeen a) a.state (λ (b : After Ty). IsProper v b.value) (and_then (specification_of a.value) without_storage) (λ t e l p g. plain-proper v a.value t p.1 e))
         (λ b j. gives-then ⊥ v os ((((is_file_scope ps.state ≡ false) × ParametersProper v ps) × IsSeen a) × IsProper v b.value) b.state (AreSteps (is_file_scope b.state)) (ParametersProper v) (optional_steps d b.state) (parameter_of (optional_name d) b.value ps.value)
         (inner-gives ((((is_file_scope ps.state ≡ false) × ParametersProper v ps) × IsSeen a) × IsProper v b.value) b.state (AreSteps (is_file_scope b.state)) (optional_steps d b.state) (optional-give d b.state))
         (λ c k. with-parameter-gives (optional_name d) b.value ps.value c (((((is_file_scope ps.state ≡ false) × ParametersProper v ps) × IsSeen a) × IsProper v b.value) × IsSteps (is_file_scope b.state) v c.value) (is_file_scope b.state)

@@ -6,7 +6,7 @@ ghost use Rattle.pv_token.specs.Table.{Table};
 ghost use Rattle.pv_tree.specs.Syntax.{ExpressionTree, DeclarationTree};
 ghost use Rattle.pv_typed.specs.TypedTree.{TypedTree};
 ghost use Rattle.pv_typed.specs.TypedUnits.{WholeUnit};
-ghost use Rattle.pv_typed.specs.Tables.{Stored, whole};
+ghost use Rattle.pv_typed.specs.Tables.{Stored, whole_unit};
 ghost use Rattle.pv_check.specs.State.{State, After};
 ghost use Rattle.pv_check.specs.Typing.{types};
 ghost use Rattle.pv_exec.specs.Run.{setting_of};
@@ -34,7 +34,7 @@ pub fn typed_units_are_well_typed()
 /// A law: a run of the unit of a source that has a typing (C17 5.1.2, 6.9) meets no guard: it is the run of the rules alone, whatever the script, the
 /// sides, the bound and zap are.
 pub fn checked_sources_meet_no_guard()
-    ensures same { (source : List ℕ) (t : Table) (ds : List DeclarationTree) (u : Stored) → IsChecked source t ds (whole u) →
+    ensures same { (source : List ℕ) (t : Table) (ds : List DeclarationTree) (u : Stored) → IsChecked source t ds (whole_unit u) →
         (sides : Option (List Bool)) (zap : Bool) (script : List ScriptLine) (n : ℕ) →
         run_at u sides zap script n ≡ plain.run_of (setting_of u n sides zap) script }
 {}

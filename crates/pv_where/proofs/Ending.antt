@@ -7,7 +7,7 @@ use Rattle.std.proofs.Math.Seq.{take-add, drop-cons}
 use Rattle.std.proofs.lemmas.List.{drop-append-le, take_all, append_assoc, drop_all}
 use Rattle.std.proofs.lemmas.Bool.{eqb-true}
 use Rattle.pv_lex.specs.Bytes.{line_feeds}
-use Rattle.pv_where.specs.Spots.{behind_quote, closed}
+use Rattle.pv_where.specs.Spots.{behind_quote, before_quote}
 use Rattle.pv_where.specs.SourceLines.{ends_line, line_before, source_line, shown_most}
 use Rattle.pv_where.specs.Texts.{head_line}
 
@@ -49,11 +49,11 @@ unfolding behind_quote
 quote_next [] h e = absurd (omega arith)
 quote_next (b ∷ bs) h e = ap (λ t. cond t bs (behind_quote bs)) (differs b 34 e)
 
-pub closed_none : (text : List ℕ) (o : Option (List ℕ)) → o ≡ None → [] ≡ closed text o
-closed_none text o e = sym (ap (closed text) e)
+pub closed_none : (text : List ℕ) (o : Option (List ℕ)) → o ≡ None → [] ≡ before_quote text o
+closed_none text o e = sym (ap (before_quote text) e)
 
-pub closed_some : (text after : List ℕ) (o : Option (List ℕ)) → o ≡ Some after → take (length text - (length after + 1)) text ≡ closed text o
-closed_some text after o e = sym (ap (closed text) e)
+pub closed_some : (text after : List ℕ) (o : Option (List ℕ)) → o ≡ Some after → take (length text - (length after + 1)) text ≡ before_quote text o
+closed_some text after o e = sym (ap (before_quote text) e)
 
 feeds_cons : (b : ℕ) (bs : List ℕ) (t : Bool) → nat_eq b 10 ≡ t → line_feeds (b ∷ bs) ≡ cond t (suc (line_feeds bs)) (line_feeds bs)
 unfolding line_feeds

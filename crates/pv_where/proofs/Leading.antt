@@ -9,7 +9,7 @@ use Rattle.pv_token.specs.declared.token_table.Token.{Token}
 use Rattle.pv_lex.specs.Bytes.{line_feeds}
 use Rattle.pv_lex.specs.Pieces.{What, White, Comment, Marker, Spelling, Piece, Stand, End, Bad, Here}
 use Rattle.pv_lex.specs.Stands.{stands}
-use Rattle.pv_lex.specs.Rows.{Place, Row, start, behind_piece, spelt_here, spelt}
+use Rattle.pv_lex.specs.Rows.{Place, Row, start, behind_piece, spelt_here, tokens_among}
 use Rattle.pv_lex.specs.Lexes.{Lexes}
 use Rattle.pv_lex.proofs.Moving.{moves_stands}
 use Rattle.pv_where.specs.Spots.{Spot, piece_before, row_to, spot_behind, line_at}
@@ -82,9 +82,9 @@ led_by whole p (Marker n) rest i e more got = more i got
 led_by whole p (Spelling s) rest zero e more got = led_here whole p s e got
 led_by whole p (Spelling s) rest (suc i) e more got = more i got
 
-led_to : (whole : ℕ) (p : Place) (xs : List Piece) (q : Place) → Row p xs q → (i : ℕ) (e : Spelt) → slice_get (spelt whole p xs) i ≡ Some e → Led whole p e
+led_to : (whole : ℕ) (p : Place) (xs : List Piece) (q : Place) → Row p xs q → (i : ℕ) (e : Spelt) → slice_get (tokens_among whole p xs) i ≡ Some e → Led whole p e
 led_to whole p [] q row i e got = absurd cc
-led_to whole p (x ∷ xs) q row i e got = led_by whole p x.what (spelt whole (behind_piece x p) xs) i e (λ j h. led_behind whole p x e row.0 (led_to whole (behind_piece x p) xs q row.1 j e h)) got
+led_to whole p (x ∷ xs) q row i e got = led_by whole p x.what (tokens_among whole (behind_piece x p) xs) i e (λ j h. led_behind whole p x e row.0 (led_to whole (behind_piece x p) xs q row.1 j e h)) got
 
 -- A token of the table is one of them.
 
@@ -104,7 +104,7 @@ same_place (Some s) start line e h = let k : record { said = s; start = start; l
 
 pub token_line : (name source : List ℕ) (t : Table) (i : ℕ) (k : Token) → Lexes source t → slice_get t.tokens i ≡ Some k → line_at name source k.start ≡ k.line
 token_line name source t i k lexes got =
-    let at = get_some (spelt (length source) (start source) lexes.pieces) i (spelt_of t.names t.texts k) (sym (ap (λ (ys : List (Option Spelt)). slice_get ys i) lexes.tells.tokens) ∙ get_map (spelt_of t.names t.texts) t.tokens i k got) in
+    let at = get_some (tokens_among (length source) (start source) lexes.pieces) i (spelt_of t.names t.texts k) (sym (ap (λ (ys : List (Option Spelt)). slice_get ys i) lexes.tells.tokens) ∙ get_map (spelt_of t.names t.texts) t.tokens i k got) in
     let same = same_place (says t.names t.texts k.kind) k.start k.line at.0 at.2 in
     let led = led_to (length source) (start source) lexes.pieces lexes.last lexes.row i at.0 at.1 in
     ap (line_at name source) (sym same.0 ∙ led.begins) ∙ row_line name source led.pieces led.place led.row ∙ sym led.line ∙ same.1

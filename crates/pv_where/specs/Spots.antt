@@ -18,13 +18,13 @@ behind_quote [] = []
 behind_quote (b ∷ bs) = if nat_eq b double_quote then bs else behind_quote bs
 
 -- 6.10.4p4: what of a text stands before a quote that closes it, behind which this is left
-abbrev pub closed : (text : List ℕ) → Option (List ℕ) → List ℕ
-closed text None = []
-closed text (Some after) = take (length text - (length after + 1)) text
+abbrev pub before_quote : (text : List ℕ) → Option (List ℕ) → List ℕ
+before_quote text None = []
+before_quote text (Some after) = take (length text - (length after + 1)) text
 
 -- 6.10.4p4: the name in a marker's quotes. An escape in it stays as it is written: how a name is spelled there is the preprocessor's matter.
 abbrev pub file_name : (marker : List ℕ) → List ℕ
-file_name marker = closed (behind_quote marker) (behind_name false (behind_quote marker))
+file_name marker = before_quote (behind_quote marker) (behind_name false (behind_quote marker))
 
 -- 6.10.4p4: the file behind a piece that stands where `text` is left: a marker names it
 abbrev pub file_behind : What → (text file : List ℕ) → List ℕ

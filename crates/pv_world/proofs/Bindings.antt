@@ -5,7 +5,7 @@ use Rattle.std.specs.FinMap.{get, insert, get-insert, same_map, nat_cmp-IsAntisy
 use Rattle.std.specs.Option.{option_or}
 use Rattle.std.proofs.lemmas.Bool.Decides.{nat_tests}
 use Rattle.pv_world.specs.Worlds.{Bindings}
-use Rattle.pv_world.specs.BoundParts.{laid, last_at}
+use Rattle.pv_world.specs.BoundParts.{with_bindings, last_at}
 
 abbrev none : ℕ × ℕ
 none = (0, 0)
@@ -14,7 +14,7 @@ get_put : (m : Bindings) (k v q : ℕ) → get (insert m k v) q ≡ cond (q == k
 get_put m k v q = get-insert nat_cmp_total m k v q ∙ ap (λ b. cond b (Some v) (get m q)) (unsigned_tied q k)
 
 -- the last binding of a number says it, and else the map
-pub get_laid : (es : List (ℕ × ℕ)) (m : Bindings) (n : ℕ) → get (laid m es) n ≡ option_or (last_at es n) (get m n)
+pub get_laid : (es : List (ℕ × ℕ)) (m : Bindings) (n : ℕ) → get (with_bindings m es) n ≡ option_or (last_at es n) (get m n)
 get_laid [] m n = refl
 get_laid (e ∷ es) m n = get_laid es (insert m e.0 e.1) n ∙ ap (option_or (last_at es n)) (get_put m e.0 e.1 n) ∙ by (last_at es n) (n == e.0)
   where
@@ -24,14 +24,14 @@ get_laid (e ∷ es) m n = get_laid es (insert m e.0 e.1) n ∙ ap (option_or (la
     by None false = refl
 
 -- one more
-pub laid_more : (es : List (ℕ × ℕ)) (m : Bindings) (n i : ℕ) → laid m (es ++ (n, i) ∷ []) ≡ insert (laid m es) n i
+pub laid_more : (es : List (ℕ × ℕ)) (m : Bindings) (n i : ℕ) → with_bindings m (es ++ (n, i) ∷ []) ≡ insert (with_bindings m es) n i
 laid_more [] m n i = refl
 laid_more (e ∷ es) m n i = laid_more es (insert m e.0 e.1) n i
 
 -- the oldest goes into the map
-pub oldest_laid : (xs : List (ℕ × ℕ)) (e : ℕ × ℕ) (m p : Bindings) → 0 < length xs → e ≡ get_or xs 0 e → p ≡ insert m e.0 e.1 → laid p (take 0 xs ++ drop 1 xs) ≡ laid m xs
+pub oldest_laid : (xs : List (ℕ × ℕ)) (e : ℕ × ℕ) (m p : Bindings) → 0 < length xs → e ≡ get_or xs 0 e → p ≡ insert m e.0 e.1 → with_bindings p (take 0 xs ++ drop 1 xs) ≡ with_bindings m xs
 oldest_laid [] e m p h is put = absurd (omega (arith, h))
-oldest_laid (x ∷ xs) e m p h is put = ap (λ b. laid b xs) (put ∙ ap (λ (s : ℕ × ℕ). insert m s.0 s.1) is)
+oldest_laid (x ∷ xs) e m p h is put = ap (λ b. with_bindings b xs) (put ∙ ap (λ (s : ℕ × ℕ). insert m s.0 s.1) is)
 
 -- without a binding of one number the others are as they were
 or_none : (o : Option ℕ) → option_or o None ≡ o
@@ -47,10 +47,10 @@ last_without (x ∷ xs) zero n q h t f = sym (ap (λ b. option_or (last_at xs q)
 last_without (x ∷ xs) (suc k) n q h t f = ap (λ o. option_or o (cond (q == x.0) (Some x.1) None)) (last_without xs k n q (omega (arith, h)) t f)
 
 -- a number that is bound anew may lose its binding before
-pub renewed : (xs : List (ℕ × ℕ)) (k n i : ℕ) (m : Bindings) → k < length xs → (n == (get_or xs k none).0) ≡ true → insert (laid m (take k xs ++ drop (suc k) xs)) n i ≡ insert (laid m xs) n i
-renewed xs k n i m within t = same_map nat_cmp_total nat_cmp-IsAntisymmetric _ _ (λ q. get_put (laid m (take k xs ++ drop (suc k) xs)) n i q ∙ by q (q == n) refl ∙ sym (get_put (laid m xs) n i q))
+pub renewed : (xs : List (ℕ × ℕ)) (k n i : ℕ) (m : Bindings) → k < length xs → (n == (get_or xs k none).0) ≡ true → insert (with_bindings m (take k xs ++ drop (suc k) xs)) n i ≡ insert (with_bindings m xs) n i
+renewed xs k n i m within t = same_map nat_cmp_total nat_cmp-IsAntisymmetric _ _ (λ q. get_put (with_bindings m (take k xs ++ drop (suc k) xs)) n i q ∙ by q (q == n) refl ∙ sym (get_put (with_bindings m xs) n i q))
   where
-    by : (q : ℕ) (b : Bool) → (q == n) ≡ b → cond b (Some i) (get (laid m (take k xs ++ drop (suc k) xs)) q) ≡ cond b (Some i) (get (laid m xs) q)
+    by : (q : ℕ) (b : Bool) → (q == n) ≡ b → cond b (Some i) (get (with_bindings m (take k xs ++ drop (suc k) xs)) q) ≡ cond b (Some i) (get (with_bindings m xs) q)
     by q true e = refl
     by q false e = get_laid (take k xs ++ drop (suc k) xs) m q ∙ ap (λ o. option_or o (get m q)) (last_without xs k n q within t e) ∙ sym (get_laid xs m q)
 

@@ -13,7 +13,7 @@ use Rattle.pv_world.specs.Telling.{both_used, fault_told}
 use Rattle.pv_world.specs.Worths.{int, wrong_of}
 use Rattle.pv_world.specs.Pointers.{in_elements, between_by}
 use Rattle.pv_world.specs.PointerParts.{uneven}
-use Rattle.pv_world.specs.Coming.{seen, Gave, Ended}
+use Rattle.pv_world.specs.Coming.{coming_of, Gave, Ended}
 
 rem_one : (d : ℤ) → int_rem d (pos 1) ≡ pos 0
 rem_one (pos a) = let e : a % 1 ≡ 0 = omega arith in ap pos e
@@ -35,7 +35,7 @@ parted p q both x h =
 -- the elements are whole
 pub whole : (w v : World) (p q : Pointer) (size : ℕ) (x : ℤ × Tried × Tried) (n : ℤ) (es fs : List What) (c : Result (Tried × Tried) Stop × Table)
     → Ok x ≡ subtract_by p q 1 c.0 → v ≡ with_table w c.1 → fs ≡ es ++ both_used x.1 x.2 → Some n ≡ in_elements (pos p.address -ℤ pos q.address) size
-    → seen es w (between_by size p q w c) ≡ Gave (int n) v fs
+    → coming_of es w (between_by size p q w c) ≡ Gave (int n) v fs
 whole w v p q size x n es fs (Ok both, T) h vs ts ns =
     let k = parted p q both x h in
     rw (← ns, vs, ts, k.0, k.1) refl
@@ -44,7 +44,7 @@ whole w v p q size x n es fs (Err y, T) h vs ts ns = absurd cc
 -- they aren't
 pub no_whole : (w v : World) (p q : Pointer) (size : ℕ) (x : ℤ × Tried × Tried) (es fs : List What) (c : Result (Tried × Tried) Stop × Table)
     → Ok x ≡ subtract_by p q 1 c.0 → v ≡ with_table w c.1 → fs ≡ es ++ both_used x.1 x.2 → None ≡ in_elements (pos p.address -ℤ pos q.address) size
-    → seen es w (between_by size p q w c) ≡ Ended uneven v (fs ++ fault_told w.memory uneven (Some p.prov))
+    → coming_of es w (between_by size p q w c) ≡ Ended uneven v (fs ++ fault_told w.memory uneven (Some p.prov))
 no_whole w v p q size x es fs (Ok both, T) h vs ts ns =
     let k = parted p q both x h in
     rw (← ns, vs, ts, k.0, k.1) refl
@@ -53,6 +53,6 @@ no_whole w v p q size x es fs (Err y, T) h vs ts ns = absurd cc
 -- the two have nothing in common
 pub apart : (w v : World) (p q : Pointer) (size : ℕ) (y : Stop) (es : List What) (c : Result (Tried × Tried) Stop × Table)
     → Err y ≡ subtract_by p q 1 c.0 → v ≡ with_table w c.1
-    → seen es w (between_by size p q w c) ≡ Ended (wrong_of y) v (es ++ fault_told w.memory (wrong_of y) (Some p.prov))
+    → coming_of es w (between_by size p q w c) ≡ Ended (wrong_of y) v (es ++ fault_told w.memory (wrong_of y) (Some p.prov))
 apart w v p q size y es (Ok both, T) h vs = let k = h ∙ in_bytes p q both in absurd cc
 apart w v p q size y es (Err z, T) h vs = let same : y ≡ z = cc in rw (same, vs) (ap (λ xs. Ended (wrong_of z) _ (xs ++ fault_told w.memory (wrong_of z) (Some p.prov))) (append-nil es))

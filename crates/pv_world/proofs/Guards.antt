@@ -10,7 +10,7 @@ use Rattle.std.proofs.lemmas.List.Sums.{AllPass-from_list_all}
 use Rattle.pv_num.specs.declared.kinds.IntKind.{IntKind}
 use Rattle.pv_num.specs.declared.operators.BinOp.{BinOp}
 use Rattle.pv_num.specs.declared.operators.BinOp.TheVariants as op
-use Rattle.pv_num.specs.Kinds.{Fits, fits_of, least, greatest}
+use Rattle.pv_num.specs.Kinds.{Fits, fits_of, least_member, greatest_member}
 use Rattle.pv_num.specs.Operands.{IsOperand}
 use Rattle.pv_prov.specs.declared.names.Prov.{Prov}
 use Rattle.pv_prov.specs.declared.names.Prov.TheVariants.{Empty, Inst, Pair}
@@ -30,11 +30,11 @@ use Rattle.pv_world.specs.declared.got.Shape.TheVariants as shape
 use Rattle.pv_watch.specs.declared.event.What.{What}
 use Rattle.pv_world.specs.declared.got.Failure.{Failure}
 use Rattle.pv_world.specs.Worlds.{Worth, Nothing, Missing, Scalar as ScalarWorth, Whole, World, Wrong}
-use Rattle.pv_world.specs.Telling.{quiet, fault_of, verdict_of}
+use Rattle.pv_world.specs.Telling.{no_telling, fault_of, verdict_of}
 use Rattle.pv_world.specs.Doing.{Done, Fails}
 use Rattle.pv_world.specs.Worths.{int_of, missing_value}
 use Rattle.pv_world.specs.Preconditions.{IsSmall, HasRoom, HasPart, HasSizeOf, IsStored}
-use Rattle.pv_world.specs.Coming.{Did, Came, Faulted, Ended, seen, IsMadeWorth}
+use Rattle.pv_world.specs.Coming.{Did, Came, Faulted, Ended, coming_of, IsMadeWorth}
 use Rattle.pv_world.proofs.Comings.{came_fails}
 use Rattle.pv_world.specs.Suiting.{where_suiting, knows, knows_value, knows_worth, is_small, is_count, is_operand, is_of, is_stored, has_part, has_room, live_in}
 use Rattle.pv_world.specs.SuitingParts.{room_in, knows_bytes}
@@ -102,9 +102,9 @@ small_is v e =
 
 pub fits_is : (k : IntKind) (n : ℤ) → fits_of k n ≡ true → Fits k n
 fits_is k n e =
-    let low = left_of (int_le (least k) n) (int_le n (greatest k)) e in
-    let high = right_of (int_le (least k) n) (int_le n (greatest k)) e in
-    (le_true (least k) n low, le_true n (greatest k) high)
+    let low = left_of (int_le (least_member k) n) (int_le n (greatest_member k)) e in
+    let high = right_of (int_le (least_member k) n) (int_le n (greatest_member k)) e in
+    (le_true (least_member k) n low, le_true n (greatest_member k) high)
 
 count_is : (n : ℤ) → is_count n ≡ true → (neg_ℤ (pos (2 ^ 63)) ≤ℤ n) × (n ≤ℤ pos (2 ^ 64 - 1))
 count_is n e =
@@ -183,9 +183,9 @@ room_is w i a n r f g =
 
 -- a fault that nothing is blamed for, where nothing was told before it
 pub failed : {A : Type 0} (give : A → Worth) (f : Failure) (y : Wrong) (w : World) (es fs : List What)
-    → Faulted f y fs (es ++ fault_of None (verdict_of y)) → Came give (Err f) w fs (seen es w (Fails y None w quiet))
+    → Faulted f y fs (es ++ fault_of None (verdict_of y)) → Came give (Err f) w fs (coming_of es w (Fails y None w no_telling))
 failed give f y w es fs h =
-    came_fails give f y w fs (es ++ fault_of None (verdict_of y)) (seen es w (Fails y None w quiet)) (ap (λ z. Ended y w (z ++ fault_of None (verdict_of y))) (append-nil es)) h
+    came_fails give f y w fs (es ++ fault_of None (verdict_of y)) (coming_of es w (Fails y None w no_telling)) (ap (λ z. Ended y w (z ++ fault_of None (verdict_of y))) (append-nil es)) h
 
 -- an operation by its look, told of the answer that the look gives
 module _ {A : Type 0} (give : A → Worth) (works : World → Done) (w : World) where

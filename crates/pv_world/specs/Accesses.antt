@@ -21,9 +21,9 @@ use Rattle.pv_watch.specs.declared.event.What.{What}
 use Rattle.pv_world.specs.declared.got.Shape.{Shape}
 use Rattle.pv_world.specs.declared.got.Shape.TheVariants as shape
 use Rattle.pv_world.specs.Worlds.{Worth, Scalar, Whole, World, with_table}
-use Rattle.pv_world.specs.Telling.{Told, telling, uses, used, live_test, range_test, exposures, all_told, pairings, quiet}
+use Rattle.pv_world.specs.Telling.{Told, telling, uses, event_of_use, live_test, range_test, exposures, all_told, pairings, no_telling}
 use Rattle.pv_world.specs.Doing.{Done, Answers, Fails}
-use Rattle.pv_world.specs.Worths.{wrong_of, value_of, bytes_of, present}
+use Rattle.pv_world.specs.Worths.{wrong_of, value_of, bytes_of, on_present_value}
 
 -- 6.5.3.2p4, 6.2.4p2, 6.4.5p7, 6.7.3p6: the checks of an access to so many bytes, and then what is done with them. The use
 -- stays told where a later check ends the run
@@ -51,7 +51,7 @@ load_blame bytes _ p y = p
 -- 6.2.6.1p5: what bytes are worth at a scalar type, after what was told before
 abbrev pub scalar_by : World → List Byte → Shape → Option Prov → Told → Loaded → Done
 scalar_by w bytes s p t (Ok r, T) =
-    Answers (Scalar r.0) (with_table w (all_told T)) (telling (t.events ++ pairings w.memory.table T ++ used live_test r.1 ++ exposures T))
+    Answers (Scalar r.0) (with_table w (all_told T)) (telling (t.events ++ pairings w.memory.table T ++ event_of_use live_test r.1 ++ exposures T))
 scalar_by w bytes s p t (Err y, T) = Fails (wrong_of y) (load_blame bytes s p y) (with_table w T) t
 
 -- 6.2.6.1p4, 6.3.2.1p2: of a structure or union the bytes themselves, and where they were read; else the scalar
@@ -79,4 +79,4 @@ is_inexact (Some b) a n = not (a == b) && (nat_lt a (b + n) && nat_lt b (a + n))
 
 -- 6.5.2.3p3: a member of a structure or union value
 abbrev pub takes_bytes : (offset size : ℕ) → Shape → Worth → World → Done
-takes_bytes offset size s v w = present v w (λ v. worth_in w (take size (drop offset (bytes_of v))) s None None quiet)
+takes_bytes offset size s v w = on_present_value v w (λ v. worth_in w (take size (drop offset (bytes_of v))) s None None no_telling)

@@ -5,9 +5,9 @@ use Rattle.std.specs.Option.{option_or}
 use Rattle.pv_world.specs.Worlds.{Bindings}
 
 -- 6.2.4: these bindings, made one after the other
-abbrev pub laid : Bindings → List (ℕ × ℕ) → Bindings
-laid m [] = m
-laid m (e ∷ es) = laid (insert m e.0 e.1) es
+abbrev pub with_bindings : Bindings → List (ℕ × ℕ) → Bindings
+with_bindings m [] = m
+with_bindings m (e ∷ es) = with_bindings (insert m e.0 e.1) es
 
 -- 6.2.4: the last of these bindings of a number
 abbrev pub last_at : List (ℕ × ℕ) → ℕ → Option ℕ

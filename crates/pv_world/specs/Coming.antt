@@ -50,10 +50,10 @@ printing [] s = s
 printing (b ∷ bs) s = Printed (b ∷ bs) s
 
 -- what a doing comes to in this world, behind these events
-abbrev pub seen : List What → World → Done → Seen
-seen es w (Answers v x t) = printing t.bytes (Gave v x (es ++ t.events))
-seen es w (Fails y p x t) = printing t.bytes (Ended y x (es ++ t.events ++ fault_told w.memory y p))
-seen es w (Breaks y b x t) = printing t.bytes (Ended y x (es ++ t.events ++ fault_of b (verdict_of y)))
+abbrev pub coming_of : List What → World → Done → Seen
+coming_of es w (Answers v x t) = printing t.bytes (Gave v x (es ++ t.events))
+coming_of es w (Fails y p x t) = printing t.bytes (Ended y x (es ++ t.events ++ fault_told w.memory y p))
+coming_of es w (Breaks y b x t) = printing t.bytes (Ended y x (es ++ t.events ++ fault_of b (verdict_of y)))
 
 -- the call comes to that, where its answer is worth this. After want of memory nothing is said
 abbrev pub Came : {A : Type 0} → (A → Worth) → Result A Failure → World → List What → Seen → Type 0
@@ -63,7 +63,7 @@ Came give (Err failure.NoMemory) w es s = Unit {0}
 
 -- the operation was made
 abbrev pub Did : {A : Type 0} → (A → Worth) → (World → Done) → Result A Failure → (old new : World) → (before after : List What) → Type 0
-Did give op r old new before after = Came give r new after (seen before old (op old))
+Did give op r old new before after = Came give r new after (coming_of before old (op old))
 
 -- the run ends so, and this was told by then
 abbrev pub Faulted : Failure → Wrong → List What → List What → Type 0

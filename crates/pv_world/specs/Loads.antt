@@ -2,7 +2,7 @@
 use Rattle.std.specs.Prelude.{◌≡◌, ℕ, List, ◌++◌, Option, Some, Result, Ok, Err}
 use Rattle.pv_inst.specs.declared.values.Tried.{Tried}
 use Rattle.pv_inst.specs.declared.values.Miss.{Miss}
-use Rattle.pv_inst.specs.Use.{settled}
+use Rattle.pv_inst.specs.Use.{after_use}
 use Rattle.pv_shadow.specs.declared.byte.Byte.{Byte}
 use Rattle.pv_object.specs.declared.values.Pointer.{Pointer}
 use Rattle.pv_object.specs.declared.values.Stop.{Stop}
@@ -16,10 +16,10 @@ use Rattle.pv_world.specs.declared.got.Failure.{Failure}
 use Rattle.pv_world.specs.declared.got.Shape.{Shape}
 use Rattle.pv_world.specs.declared.got.Shape.TheVariants as shape
 use Rattle.pv_world.specs.Worlds.{Scalar, Whole, World, with_table}
-use Rattle.pv_world.specs.Telling.{telling, used, live_test, exposures, all_told, pairings, blame_of, fault_of, verdict_of}
+use Rattle.pv_world.specs.Telling.{telling, event_of_use, live_test, exposures, all_told, pairings, blame_of, fault_of, verdict_of}
 use Rattle.pv_world.specs.Worths.{wrong_of}
 use Rattle.pv_world.specs.Accesses.{scalar_as, worth_in}
-use Rattle.pv_world.specs.Coming.{Came, Seen, Gave, Ended, seen, worth_of}
+use Rattle.pv_world.specs.Coming.{Came, Seen, Gave, Ended, coming_of, worth_of}
 
 -- whom a load's stop blames: the accessed pointer, or the loaded one
 abbrev pub stop_blame : Shape → Stop → (accessed loaded : Option Blame) → Option Blame
@@ -32,7 +32,7 @@ stop_blame shape.Whole y o q = o
 
 -- what a load of a scalar comes to
 abbrev pub loaded_seen : List What → World → Shape → (accessed loaded : Option Blame) → Loaded → Seen
-loaded_seen es w s o q (Ok r, T) = Gave (Scalar r.0) (with_table w (all_told T)) (es ++ pairings w.memory.table T ++ used live_test r.1 ++ exposures T)
+loaded_seen es w s o q (Ok r, T) = Gave (Scalar r.0) (with_table w (all_told T)) (es ++ pairings w.memory.table T ++ event_of_use live_test r.1 ++ exposures T)
 loaded_seen es w s o q (Err y, T) = Ended (wrong_of y) (with_table w T) (es ++ fault_of (stop_blame s y o q) (verdict_of (wrong_of y)))
 
 -- the same of bytes of any shape
@@ -45,5 +45,5 @@ valued_seen es w bytes (shape.Int k) origin o q = loaded_seen es w (shape.Int k)
 -- pointer were those that are blamed, and then it was used. What the access told before is part of it.
 abbrev pub ReadsOn : (w : World) → List Byte → Shape → (address : ℕ) → Pointer → Blame → Result Got Failure → (new : World) → (before after : List What) → Type 0
 ReadsOn w bytes s a p b r v bs fs =
-    (w0 : World) (t : Result Tried Miss) (es us : List What) → w.memory.table ≡ settled w0.memory.table p.prov t → b ≡ blame_of w0.memory p.prov → bs ≡ es ++ us
-    → Came worth_of r v fs (seen es w0 (worth_in w bytes s (Some a) (Some p.prov) (telling us)))
+    (w0 : World) (t : Result Tried Miss) (es us : List What) → w.memory.table ≡ after_use w0.memory.table p.prov t → b ≡ blame_of w0.memory p.prov → bs ≡ es ++ us
+    → Came worth_of r v fs (coming_of es w0 (worth_in w bytes s (Some a) (Some p.prov) (telling us)))

@@ -17,7 +17,7 @@ use Rattle.pv_watch.specs.declared.event.What.TheVariants as what
 use Rattle.pv_object.specs.Memory.{Mem}
 use Rattle.std.specs.Option.{option_map_or}
 use Rattle.pv_world.specs.Worths.{pointer}
-use Rattle.pv_world.specs.Telling.{quiet}
+use Rattle.pv_world.specs.Telling.{no_telling}
 use Rattle.std.specs.FinMap as map
 
 -- 6.5p6: of the instances up to so many, and of the next one, the objects that they were made for
@@ -62,20 +62,20 @@ literal_made w l bytes x = instance_made w 0 x (λ i M. with_characters (literal
 
 -- a string literal is an lvalue: the array that was made for it
 abbrev pub names_literal : ℕ → World → Done
-names_literal l w = Answers (pointer (address_of w (literal_of w l))) w quiet
+names_literal l w = Answers (pointer (address_of w (literal_of w l))) w no_telling
 
 -- an identifier designates its function
 abbrev pub names_function : ℕ → World → Done
-names_function f w = Answers (pointer (address_of w (function_of w f))) w quiet
+names_function f w = Answers (pointer (address_of w (function_of w f))) w no_telling
 
 -- a body begins with no objects of its own
 abbrev pub begins_body : World → Done
-begins_body w = Answers Nothing (record w { bodies = map.empty ∷ w.bodies }) quiet
+begins_body w = Answers Nothing (record w { bodies = map.empty ∷ w.bodies }) no_telling
 
 -- a body ends; those below it are left
 abbrev pub ends_body : World → Done
-ends_body w = Answers Nothing (record w { bodies = drop 1 w.bodies }) quiet
+ends_body w = Answers Nothing (record w { bodies = drop 1 w.bodies }) no_telling
 
 -- 6.5.1p2: an identifier designates its object
 abbrev pub names_object : ℕ → (lasting : Bool) → World → Done
-names_object o lasting w = Answers (pointer (address_of w (instance_of w o lasting))) w quiet
+names_object o lasting w = Answers (pointer (address_of w (instance_of w o lasting))) w no_telling

@@ -9,14 +9,14 @@ use Rattle.pv_inst.specs.Table.{instance_at}
 use Rattle.pv_inst.specs.Infos.{base_of}
 use Rattle.pv_inst.specs.Placing.{Request}
 use Rattle.pv_shadow.specs.declared.byte.Byte.{Byte}
-use Rattle.pv_shadow.specs.Bytes.{written}
-use Rattle.pv_shadow.specs.Whole.{plain}
+use Rattle.pv_shadow.specs.Bytes.{with_bytes_at}
+use Rattle.pv_shadow.specs.Whole.{number_bytes}
 use Rattle.pv_object.specs.declared.values.Pointer.{Pointer}
 use Rattle.pv_object.specs.Memory.{Mem}
-use Rattle.pv_object.specs.Creating.{created, without}
+use Rattle.pv_object.specs.Creating.{creation, without}
 use Rattle.pv_watch.specs.declared.event.What.TheVariants as what
 use Rattle.pv_world.specs.Worlds.{Nothing, World, Bindings, Halts, Refused}
-use Rattle.pv_world.specs.Telling.{quiet, telling, made}
+use Rattle.pv_world.specs.Telling.{no_telling, telling, event_of_making}
 use Rattle.pv_world.specs.Doing.{Done, Answers, Fails}
 
 -- 6.2.4p6: the instance of an object in the innermost body
@@ -67,12 +67,12 @@ object_request name text size align constant = record { text = text; name = name
 
 -- 6.2.4p2, 6.4.5p6: what a request came to: the world with the new instance, or why there is none
 abbrev pub instance_made : World → (name : ℕ) → Result ℕ CreateError × Mem → (ℕ → Mem → World) → Done
-instance_made w name (Ok i, M) go = Answers Nothing (go i M) (telling (made M.table i))
-instance_made w name (Err e, M) go = Fails (Halts (Refused name e)) None (record w { memory = M }) quiet
+instance_made w name (Ok i, M) go = Answers Nothing (go i M) (telling (event_of_making M.table i))
+instance_made w name (Err e, M) go = Fails (Halts (Refused name e)) None (record w { memory = M }) no_telling
 
 -- 6.2.4p2: the object begins its lifetime
 abbrev pub makes_object : ℕ → (lasting : Bool) → Request → World → Done
-makes_object o lasting r w = instance_made w r.name (created w.memory r) (λ i M. bind (owning w M i (Some o)) o lasting i)
+makes_object o lasting r w = instance_made w r.name (creation w.memory r) (λ i M. bind (owning w M i (Some o)) o lasting i)
 
 -- 6.2.4p2: an instance ends; its address may be used again, its number never (the memory model)
 abbrev pub ends_instance : World → ℕ → Done
@@ -84,7 +84,7 @@ ends_object o lasting w = ends_instance w (instance_of w o lasting)
 
 -- 6.2.6.1p4: the abstract bytes from an address on become these
 abbrev pub put_at : World → (address : ℕ) → List Byte → World
-put_at w a bytes = record w { memory = record w.memory { bytes = written w.memory.bytes a bytes } }
+put_at w a bytes = record w { memory = record w.memory { bytes = with_bytes_at w.memory.bytes a bytes } }
 
 -- 6.4.5p6: the literal has this instance
 abbrev pub literal_bound : World → ℕ → ℕ → World
@@ -92,12 +92,12 @@ literal_bound w l i = record w { literals = map.insert w.literals l i }
 
 -- 6.4.5p6: its bytes are the characters
 abbrev pub with_characters : World → (i : ℕ) → (bytes : List ℕ) → World
-with_characters w i bytes = put_at w (base_in w i) (plain None 0 bytes)
+with_characters w i bytes = put_at w (base_in w i) (number_bytes None 0 bytes)
 
 -- 6.4.5p6: a literal's array is made, with its characters
 abbrev pub makes_literal_of : ℕ → (text bytes : List ℕ) → World → Done
 makes_literal_of l text bytes w =
-    instance_made w 0 (created w.memory (record { text = text; name = 0; size = length bytes; align = 1; kind = Literal }))
+    instance_made w 0 (creation w.memory (record { text = text; name = 0; size = length bytes; align = 1; kind = Literal }))
     (λ i M. with_characters (literal_bound (owning w M i None) l i) i bytes)
 
 -- 6.3.2.1p4: the instance of a function
@@ -114,13 +114,13 @@ function_bound w f i = record w { functions = map.insert w.functions f i }
 
 -- 6.3.2.1p4: a function that is pointed to has an instance, which never ends
 abbrev pub makes_function : ℕ → Request → World → Done
-makes_function f r w = instance_made w r.name (created w.memory r) (λ i M. function_bound (owning w M i (Some f)) f i)
+makes_function f r w = instance_made w r.name (creation w.memory r) (λ i M. function_bound (owning w M i (Some f)) f i)
 
 -- 6.7.9p10, p19, p21: every byte of an object becomes this one, or has no value; without provenance and mark (the memory model)
 abbrev pub fills_object : ℕ → (lasting : Bool) → (size : ℕ) → Option ℕ → World → Done
 fills_object o lasting size v w =
-    Answers Nothing (put_at w (base_in w (instance_of w o lasting)) (replicate size (record { value = v; prov = Empty; index = None; mark = None }))) quiet
+    Answers Nothing (put_at w (base_in w (instance_of w o lasting)) (replicate size (record { value = v; prov = Empty; index = None; mark = None }))) no_telling
 
 -- 6.7.9p11, p14, 6.9.1p10: the bytes of an object from an offset on become these. Nothing is checked
 abbrev pub puts_bytes : ℕ → (lasting : Bool) → (offset : ℕ) → List Byte → World → Done
-puts_bytes o lasting offset bytes w = Answers Nothing (put_at w (base_in w (instance_of w o lasting) + offset) bytes) quiet
+puts_bytes o lasting offset bytes w = Answers Nothing (put_at w (base_in w (instance_of w o lasting) + offset) bytes) no_telling

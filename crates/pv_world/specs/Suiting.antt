@@ -19,13 +19,13 @@ use Rattle.pv_world.specs.declared.got.Shape.{Shape}
 use Rattle.pv_world.specs.declared.got.Shape.TheVariants as shape
 use Rattle.pv_world.specs.Worlds.{Worth, Missing, Scalar as ScalarWorth, Whole, World}
 use Rattle.pv_world.specs.Worths.{int_of, missing_value}
-use Rattle.pv_world.specs.Telling.{quiet}
+use Rattle.pv_world.specs.Telling.{no_telling}
 use Rattle.pv_world.specs.Doing.{Done, Fails}
 use Rattle.std.specs.Option.{option_map_or}
 
 -- 6.9.1p12: what an operation does whose operands suit; on others it ends the run as on a value that is missing
 abbrev pub where_suiting : Bool → (World → Done) → World → Done
-where_suiting suits works w = if suits then works w else Fails missing_value None w quiet
+where_suiting suits works w = if suits then works w else Fails missing_value None w no_telling
 
 -- what a name speaks of was made (the memory model: provenance)
 abbrev pub knows : Table → Prov → Bool

@@ -29,20 +29,20 @@ pub record Told : Type 0 where
   pub bytes : List ℕ
 
 -- nothing is told
-abbrev pub quiet : Told
-quiet = record { events = []; bytes = [] }
+abbrev pub no_telling : Told
+no_telling = record { events = []; bytes = [] }
 
 -- these events are told, and nothing is printed
 abbrev pub telling : List What → Told
 telling es = record { events = es; bytes = [] }
 
 -- the memory model: a use that found survivors is told of where its name stood for two before it, a pair of candidates
-abbrev pub used : (test : ℕ) → Tried → List What
-used test tried = option_map_or (λ k. what.Tried k test tried.low tried.high ∷ []) tried.pair []
+abbrev pub event_of_use : (test : ℕ) → Tried → List What
+event_of_use test tried = option_map_or (λ k. what.Tried k test tried.low tried.high ∷ []) tried.pair []
 
 -- the memory model: a use that found none is not told
 abbrev pub uses : (test : ℕ) → Result Tried Miss → List What
-uses test (Ok tried) = used test tried
+uses test (Ok tried) = event_of_use test tried
 uses test (Err miss) = []
 
 -- 6.2.4p2: the live test of a pointer, as it is made on this table
@@ -51,11 +51,11 @@ live_use T p = uses live_test (use_answer T p.prov Live)
 
 -- 6.5.8p5, 6.5.6p9: of two operands the left one's use comes first
 abbrev pub both_used : Tried → Tried → List What
-both_used left right = used same_test left ++ used same_test right
+both_used left right = event_of_use same_test left ++ event_of_use same_test right
 
 -- an instance that was made (6.2.4p2)
-abbrev pub made : Table → ℕ → List What
-made T i = option_map_or (λ (x : Instance). what.Made i x.name x.k x.base x.size ∷ []) (instance_at T.instances i) []
+abbrev pub event_of_making : Table → ℕ → List What
+event_of_making T i = option_map_or (λ (x : Instance). what.Made i x.name x.k x.base x.size ∷ []) (instance_at T.instances i) []
 
 -- the memory model: an event for each instance that became exposed
 abbrev pub each_exposed : List ℕ → List What
@@ -90,13 +90,13 @@ abbrev pub blame_of : Mem → Prov → Blame
 blame_of M p = let s = stands M.table.pairs p in record { low = s.low; high = s.high; pair = pair_of p }
 
 -- the event of a fault
-abbrev pub faulted : Option Blame → Verdict → What
-faulted None v = what.Fault v None None None
-faulted (Some b) v = what.Fault v b.low b.high b.pair
+abbrev pub fault_event : Option Blame → Verdict → What
+fault_event None v = what.Fault v None None None
+fault_event (Some b) v = what.Fault v b.low b.high b.pair
 
 -- the event of a fault, where there is a verdict
 abbrev pub fault_of : Option Blame → Option Verdict → List What
-fault_of b v = option_map_or (λ v. faulted b v ∷ []) v []
+fault_of b v = option_map_or (λ v. fault_event b v ∷ []) v []
 
 -- the event of a fault, by the name of the pointer whose check stopped (the memory model: provenance)
 abbrev pub fault_told : Mem → Wrong → Option Prov → List What

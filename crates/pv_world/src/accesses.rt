@@ -5,14 +5,14 @@
 ghost use Rattle.std.specs.Prelude.{◌≡◌, ◌≤◌, ◌++◌, ◌&&◌, All, length, OnOk, IfOk, IfErr};
 ghost use Rattle.pv_inst.specs.declared.values.Test.{Test};
 ghost use Rattle.pv_inst.specs.Table.{IsMadeIn};
-ghost use Rattle.pv_inst.specs.Use.{use_answer, settled};
-ghost use Rattle.pv_shadow.specs.Bytes.{read};
+ghost use Rattle.pv_inst.specs.Use.{use_answer, after_use};
+ghost use Rattle.pv_shadow.specs.Bytes.{bytes_from};
 ghost use Rattle.pv_object.specs.Reaching.{IsReach};
 ghost use Rattle.pv_object.specs.Later.{IsLater};
 ghost use Rattle.pv_world.specs.declared.got.Shape.{Shape};
 ghost use Rattle.pv_world.specs.Worlds.{World as WorldView, with_table};
 ghost use Rattle.pv_world.specs.Worths.{origin_of};
-ghost use Rattle.pv_world.specs.Telling.{Told, telling, quiet, blame_of};
+ghost use Rattle.pv_world.specs.Telling.{Told, telling, no_telling, blame_of};
 ghost use Rattle.pv_world.specs.Doing.{Done};
 ghost use Rattle.pv_world.specs.Objects.{put_at};
 ghost use Rattle.pv_world.specs.Accesses.{reaching, worth_in, mark_of, stored_as, takes_bytes};
@@ -20,7 +20,7 @@ ghost use Rattle.pv_world.specs.AccessParts.{range_use};
 ghost use Rattle.pv_world.specs.Preconditions.{HasSizeOf, HasPart, IsStored};
 ghost use Rattle.pv_world.specs.Suiting.{where_suiting, has_part, knows_worth};
 ghost use Rattle.pv_world.specs.Loads.{ReadsOn};
-ghost use Rattle.pv_world.specs.Coming.{Came, Did, seen, worth_of, IsMadeWorth};
+ghost use Rattle.pv_world.specs.Coming.{Came, Did, coming_of, worth_of, IsMadeWorth};
 
 use crate::failing::{Blame, blame_of, fail, stopped_after};
 use crate::got::{Failure, Got, Shape};
@@ -81,8 +81,8 @@ impl World {
         requires aligned { 1 ≤ align }
         ensures goes_on { IfOk result (λ at. (go : Reach → WorldView → Told → Done) → reaching p n align write self.old go ≡ go at self.new (telling (range_use self.old.memory.table p n))) }
         ensures told { OnOk result (told.new.items ≡ told.old.items ++ range_use self.old.memory.table p n) }
-        ensures stops { IfErr result (λ e. (go : Reach → WorldView → Told → Done) → Came worth_of (Err e) self.new told.new.items (seen told.old.items self.old (reaching p n align write self.old go))) }
-        ensures settled { OnOk result (self.new.memory.table ≡ settled self.old.memory.table p.prov (use_answer self.old.memory.table p.prov (Test.Range p.address n))) }
+        ensures stops { IfErr result (λ e. (go : Reach → WorldView → Told → Done) → Came worth_of (Err e) self.new told.new.items (coming_of told.old.items self.old (reaching p n align write self.old go))) }
+        ensures settled { OnOk result (self.new.memory.table ≡ after_use self.old.memory.table p.prov (use_answer self.old.memory.table p.prov (Test.Range p.address n))) }
         ensures world { OnOk result (self.new ≡ with_table self.old self.new.memory.table) }
         ensures within { IfOk result (λ at. IsReach self.new.memory.table at n) }
         ensures later { IsLater self.old.memory.table self.new.memory.table }
@@ -113,7 +113,7 @@ impl World {
         requires reached { IsReach self.old.memory.table at.now n }
         requires size { HasSizeOf shape n }
         requires made { IsMadeIn self.old.memory.table p.prov }
-        ensures did { ReadsOn self.old (read self.old.memory.bytes at.now.address n) shape at.now.address p blame result self.new told.old.items told.new.items }
+        ensures did { ReadsOn self.old (bytes_from self.old.memory.bytes at.now.address n) shape at.now.address p blame result self.new told.old.items told.new.items }
         ensures later { IsLater self.old.memory.table self.new.memory.table }
         ensures memory { self.new ≡ record self.old { memory = self.new.memory } }
         ensures made { IfOk result (λ g. IsMadeWorth self.new.memory.table (worth_of g)) }
@@ -143,7 +143,7 @@ impl World {
     ) -> Result<Got, Failure>
         requires reached { IsReach self.old.memory.table at.now 8 }
         requires made { IsMadeIn self.old.memory.table p.prov }
-        ensures did { ReadsOn self.old (read self.old.memory.bytes at.now.address 8) Shape.Pointer at.now.address p blame result self.new told.old.items told.new.items }
+        ensures did { ReadsOn self.old (bytes_from self.old.memory.bytes at.now.address 8) Shape.Pointer at.now.address p blame result self.new told.old.items told.new.items }
         ensures later { IsLater self.old.memory.table self.new.memory.table }
         ensures memory { self.new ≡ record self.old { memory = self.new.memory } }
         ensures made { IfOk result (λ g. IsMadeWorth self.new.memory.table (worth_of g)) }
@@ -171,7 +171,7 @@ impl World {
         requires reached { IsReach self.old.memory.table at.now n }
         requires size { HasSizeOf shape n }
         requires made { IsMadeIn self.old.memory.table p.prov }
-        ensures did { ReadsOn self.old (read self.old.memory.bytes at.now.address n) shape at.now.address p blame result self.new told.old.items told.new.items }
+        ensures did { ReadsOn self.old (bytes_from self.old.memory.bytes at.now.address n) shape at.now.address p blame result self.new told.old.items told.new.items }
         ensures later { IsLater self.old.memory.table self.new.memory.table }
         ensures memory { self.new ≡ record self.old { memory = self.new.memory } }
         ensures made { IfOk result (λ g. IsMadeWorth self.new.memory.table (worth_of g)) }
@@ -246,7 +246,7 @@ impl World {
     ) -> Result<Got, Failure>
         requires size { HasSizeOf shape (length bytes.now) }
         requires made { All (λ b. IsMadeIn self.old.memory.table b.prov) bytes.now }
-        ensures did { Did worth_of (λ w. worth_in w bytes.now shape None None quiet) result self.old self.new told.old.items told.new.items }
+        ensures did { Did worth_of (λ w. worth_in w bytes.now shape None None no_telling) result self.old self.new told.old.items told.new.items }
         ensures later { IsLater self.old.memory.table self.new.memory.table }
         ensures memory { self.new ≡ record self.old { memory = self.new.memory } }
         ensures made { IfOk result (λ g. IsMadeWorth self.new.memory.table (worth_of g)) }

@@ -3,7 +3,7 @@ ghost use Rattle.std.specs.Prelude.{◌≡◌, ◌<◌, ◌&&◌, pos, true, Ok,
 ghost use Rattle.pv_num.specs.Arithmetic.{binary_of};
 ghost use Rattle.pv_inst.specs.Table.{IsMadeIn};
 ghost use Rattle.pv_object.specs.Later.{IsLater};
-ghost use Rattle.pv_object.specs.Operations.{order, equal};
+ghost use Rattle.pv_object.specs.Operations.{order, pointer_equality};
 ghost use Rattle.pv_world.specs.Pointers.{orders, ordered_by, is_order, equals, equal_by};
 ghost use Rattle.pv_world.specs.Suiting.{where_suiting, knows_both};
 ghost use Rattle.pv_world.specs.Coming.{Did, worth_of, IsMadeWorth};
@@ -91,7 +91,7 @@ impl World {
     ) -> Result<Got, Failure>
         requires left { IsMadeIn self.old.memory.table p.prov }
         requires right { IsMadeIn self.old.memory.table q.prov }
-        ensures did { Did worth_of (λ w. equal_by negated w p q (equal w.memory.table p q)) result self.old self.new told.old.items told.new.items }
+        ensures did { Did worth_of (λ w. equal_by negated w p q (pointer_equality w.memory.table p q)) result self.old self.new told.old.items told.new.items }
         ensures later { IsLater self.old.memory.table self.new.memory.table }
         ensures memory { self.new ≡ record self.old { memory = self.new.memory } }
         ensures made { IfOk result (λ g. IsMadeWorth self.new.memory.table (worth_of g)) }

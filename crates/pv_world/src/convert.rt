@@ -4,7 +4,7 @@ ghost use Rattle.pv_inst.specs.Table.{IsMadeIn};
 ghost use Rattle.pv_object.specs.Later.{IsLater};
 ghost use Rattle.pv_object.specs.Operations.{recast};
 ghost use Rattle.pv_world.specs.Hows.{IsHow};
-ghost use Rattle.pv_world.specs.Worths.{unplain, int_of, pointer_of};
+ghost use Rattle.pv_world.specs.Worths.{why_not_set, int_of, pointer_of};
 ghost use Rattle.pv_world.specs.Preconditions.{IsSmall};
 ghost use Rattle.pv_world.specs.Suiting.{where_suiting, is_convertible};
 ghost use Rattle.pv_world.specs.Conversions.{converts, recast_by, passes};

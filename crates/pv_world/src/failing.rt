@@ -1,7 +1,7 @@
 // Why an operation ends the run: the fault that is told.
 ghost use Rattle.std.specs.Prelude.{◌≡◌, ◌+◌, ◌++◌, Some};
 ghost use Rattle.pv_inst.specs.Table.{IsMadeIn};
-ghost use Rattle.pv_world.specs.Telling.{used, blame_of, fault_of, verdict_of};
+ghost use Rattle.pv_world.specs.Telling.{event_of_use, blame_of, fault_of, verdict_of};
 ghost use Rattle.pv_world.specs.Worths.{wrong_of};
 ghost use Rattle.pv_world.specs.Coming.{Faulted, wrong_for};
 
@@ -64,7 +64,7 @@ pub fn stopped(told: &mut Vec<What>, stop: Stop, blame: Option<Blame>) -> Failur
 /// The run ends by a call of the memory: what its use of a name found by the test with this number is told, and then
 /// the fault.
 pub(crate) fn stopped_after(told: &mut Vec<What>, test: u8, by: Stopped, blame: Blame) -> Failure
-    ensures { Faulted result (wrong_of by.stop) told.new.items (told.old.items ++ used test by.tried ++ fault_of (Some blame) (verdict_of (wrong_of by.stop))) }
+    ensures { Faulted result (wrong_of by.stop) told.new.items (told.old.items ++ event_of_use test by.tried ++ fault_of (Some blame) (verdict_of (wrong_of by.stop))) }
 {
     match tell_used(told, test, by.tried) {
         Ok(()) => stopped(told, by.stop, Some(blame)),

@@ -4,11 +4,11 @@ ghost use Rattle.pv_script.specs.Names.{name_at as text_of};
 ghost use Rattle.pv_inst.specs.Answers.{IsLive};
 ghost use Rattle.pv_object.specs.Later.{IsLater};
 ghost use Rattle.pv_world.specs.Objects.{owning, makes_function, function_request, function_bound};
-ghost use Rattle.pv_world.specs.Telling.{made};
+ghost use Rattle.pv_world.specs.Telling.{event_of_making};
 ghost use Rattle.pv_world.specs.PointerParts.{unlike};
 ghost use Rattle.pv_world.specs.Callees.{FoundAs, FoundBy};
 ghost use Rattle.pv_inst.specs.Table.{IsMadeIn};
-ghost use Rattle.pv_world.specs.Coming.{CameMade, seen, worth_of, wrong_for, IsMadeWorth};
+ghost use Rattle.pv_world.specs.Coming.{CameMade, coming_of, worth_of, wrong_for, IsMadeWorth};
 
 use crate::failing::{blame_of, fail, stopped};
 use crate::got::{Cause, Failure, Got};
@@ -45,7 +45,7 @@ impl World {
     ) -> Result<(), CreateError>
         requires named { name < length names.now }
         requires heap { text_of names.now name ≢ codes "@heap" }
-        ensures did { CameMade name result self.new told.new.items (seen told.old.items self.old (makes_function function (function_request name (text_of names.now name)) self.old)) }
+        ensures did { CameMade name result self.new told.new.items (coming_of told.old.items self.old (makes_function function (function_request name (text_of names.now name)) self.old)) }
     {
         match self.memory.create(names, name, 1, 1, Kind::Function) {
             Ok(i) => match self.function_begun(i, function, told) {
@@ -65,7 +65,7 @@ impl World {
     ) -> Result<(), NoMemory>
         requires { IsLive self.old.memory.table.instances i }
         ensures world { OnOk result (self.new ≡ function_bound (owning self.old self.old.memory i (Some function)) function i) }
-        ensures told { OnOk result (told.new.items ≡ told.old.items ++ made self.old.memory.table i) }
+        ensures told { OnOk result (told.new.items ≡ told.old.items ++ event_of_making self.old.memory.table i) }
     {
         match own(&mut self.owners, i, Some(function)) {
             Ok(()) => {}

@@ -1,13 +1,13 @@
 // The arrays of string literals (6.4.5p6).
 ghost use Rattle.std.specs.Prelude.{◌≡◌, ◌≤◌, ◌<◌, ◌+◌, ◌-◌, ◌++◌, ◌≢◌, Some, None, length, codes, OnOk, IfOk};
 ghost use Rattle.pv_script.specs.Names.{name_at as text_of};
-ghost use Rattle.pv_shadow.specs.Whole.{plain};
+ghost use Rattle.pv_shadow.specs.Whole.{number_bytes};
 ghost use Rattle.pv_object.specs.Answers.{HasSize};
 ghost use Rattle.pv_inst.specs.Answers.{IsLive};
 ghost use Rattle.pv_world.specs.Objects.{owning, bind, makes_literal_of, literal_bound, with_characters};
-ghost use Rattle.pv_world.specs.Telling.{made};
+ghost use Rattle.pv_world.specs.Telling.{event_of_making};
 ghost use Rattle.pv_watch.specs.declared.event.What.{What};
-ghost use Rattle.pv_world.specs.Coming.{CameMade, seen};
+ghost use Rattle.pv_world.specs.Coming.{CameMade, coming_of};
 
 use crate::objects::own;
 use crate::telling::tell_made;
@@ -21,7 +21,7 @@ use std::alloc::Global;
 
 /// Characters as bytes without a mark.
 pub fn characters(alloc: Global, bytes: &[u8]) -> Result<Vec<Byte>, NoMemory>
-    ensures bytes { IfOk result (λ v. v.items ≡ plain None 0 bytes.now) }
+    ensures bytes { IfOk result (λ v. v.items ≡ number_bytes None 0 bytes.now) }
     ensures long { IfOk result (λ v. length v.items ≡ length bytes.now) }
 {
     let mut all = Vec::new(alloc);
@@ -49,7 +49,7 @@ impl World {
         requires named { 0 < length names.now }
         requires sized { 1 ≤ length bytes.now }
         requires heap { text_of names.now 0 ≢ codes "@heap" }
-        ensures did { CameMade 0 result self.new told.new.items (seen told.old.items self.old (makes_literal_of literal (text_of names.now 0) bytes.now self.old)) }
+        ensures did { CameMade 0 result self.new told.new.items (coming_of told.old.items self.old (makes_literal_of literal (text_of names.now 0) bytes.now self.old)) }
     {
         match self
             .memory
@@ -75,7 +75,7 @@ impl World {
         requires live { IsLive self.old.memory.table.instances i }
         requires sized { HasSize self.old.memory.table.instances i (length bytes.now) }
         ensures world { OnOk result (self.new ≡ with_characters (literal_bound (owning self.old self.old.memory i None) literal i) i bytes.now) }
-        ensures told { OnOk result (told.new.items ≡ told.old.items ++ made self.old.memory.table i) }
+        ensures told { OnOk result (told.new.items ≡ told.old.items ++ event_of_making self.old.memory.table i) }
     {
         let characters = match characters(self.alloc, bytes) {
             Ok(characters) => characters,

@@ -4,15 +4,15 @@ ghost use Rattle.std.specs.Option.{option_map};
 ghost use Rattle.pv_inst.specs.declared.values.Tried.{Tried};
 ghost use Rattle.pv_inst.specs.declared.values.Miss.{Miss};
 ghost use Rattle.pv_inst.specs.Table.{IsMadeIn};
-ghost use Rattle.pv_inst.specs.Use.{settled};
+ghost use Rattle.pv_inst.specs.Use.{after_use};
 ghost use Rattle.pv_shadow.specs.Whole.{whole_name};
 ghost use Rattle.pv_object.specs.Memory.{Mem};
 ghost use Rattle.pv_object.specs.Later.{IsLater};
 ghost use Rattle.pv_object.specs.Encoding.{size_of};
-ghost use Rattle.pv_object.specs.Loading.{value_of as load_of, tested};
+ghost use Rattle.pv_object.specs.Loading.{value_of as load_of, loaded_test};
 ghost use Rattle.pv_world.specs.declared.got.Shape.{Shape};
 ghost use Rattle.pv_world.specs.Worlds.{with_table};
-ghost use Rattle.pv_world.specs.Telling.{used, live_test, exposures, all_told, each_paired, blame_of};
+ghost use Rattle.pv_world.specs.Telling.{event_of_use, live_test, exposures, all_told, each_paired, blame_of};
 ghost use Rattle.pv_world.specs.Preconditions.{HasSizeOf};
 ghost use Rattle.pv_world.specs.Loads.{stop_blame, loaded_seen, valued_seen};
 ghost use Rattle.pv_world.specs.Coming.{Came, worth_of, IsMadeWorth};
@@ -44,7 +44,7 @@ pub(crate) fn blame_of_bytes(memory: &Memory, bytes: &[Byte]) -> Option<Blame>
 pub(crate) fn blame_within(memory: &Memory, q: Prov, p: Prov, blame: Blame) -> Blame
     requires loaded { IsMadeIn memory.now.table q }
     requires used { IsMadeIn memory.now.table p }
-    ensures { (M : Mem) (t : Result Tried Miss) → memory.now.table ≡ settled M.table p t → blame ≡ blame_of M p → result ≡ blame_of M q }
+    ensures { (M : Mem) (t : Result Tried Miss) → memory.now.table ≡ after_use M.table p t → blame ≡ blame_of M p → result ≡ blame_of M q }
 {
     if same_name(q, p) {
         return blame;
@@ -56,7 +56,7 @@ pub(crate) fn blame_within(memory: &Memory, q: Prov, p: Prov, blame: Blame) -> B
 pub(crate) fn blame_since(memory: &Memory, bytes: &[Byte], p: Prov, blame: Blame) -> Option<Blame>
     requires made { All (λ b. IsMadeIn memory.now.table b.prov) bytes.now }
     requires used { IsMadeIn memory.now.table p }
-    ensures { (M : Mem) (t : Result Tried Miss) → memory.now.table ≡ settled M.table p t → blame ≡ blame_of M p → result ≡ option_map (blame_of M) (whole_name bytes.now) }
+    ensures { (M : Mem) (t : Result Tried Miss) → memory.now.table ≡ after_use M.table p t → blame ≡ blame_of M p → result ≡ option_map (blame_of M) (whole_name bytes.now) }
 {
     let Some(q) = whole_name(bytes) else {
         return None;
@@ -88,7 +88,7 @@ impl World {
     #[tactic(auto, using(crate::proofs::Laters::later_itself))]
     fn tell_load(&mut self, told: &mut Vec<What>, before: u64, tried: Tried) -> Result<(), NoMemory>
         requires { before ≤ length self.old.memory.table.pairs }
-        ensures told { OnOk result (told.new.items ≡ told.old.items ++ each_paired self.old.memory.table (before + 1) (drop before self.old.memory.table.pairs) ++ used live_test tried ++ exposures self.old.memory.table) }
+        ensures told { OnOk result (told.new.items ≡ told.old.items ++ each_paired self.old.memory.table (before + 1) (drop before self.old.memory.table.pairs) ++ event_of_use live_test tried ++ exposures self.old.memory.table) }
         ensures state { OnOk result (self.new ≡ with_table self.old (all_told self.old.memory.table)) }
         ensures later { IsLater self.old.memory.table self.new.memory.table }
         ensures memory { self.new ≡ record self.old { memory = self.new.memory } }
@@ -145,7 +145,7 @@ impl World {
         told: &mut Vec<What>,
     ) -> Result<Got, Failure>
         requires { IsMadeIn self.old.memory.table q.prov }
-        ensures did { Came worth_of result self.new told.new.items (loaded_seen told.old.items self.old Shape.Pointer (Some accessed) (Some loaded) (tested self.old.memory.table q)) }
+        ensures did { Came worth_of result self.new told.new.items (loaded_seen told.old.items self.old Shape.Pointer (Some accessed) (Some loaded) (loaded_test self.old.memory.table q)) }
         ensures later { IsLater self.old.memory.table self.new.memory.table }
         ensures memory { self.new ≡ record self.old { memory = self.new.memory } }
         ensures made { IfOk result (λ g. IsMadeWorth self.new.memory.table (worth_of g)) }

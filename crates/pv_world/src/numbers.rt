@@ -5,8 +5,8 @@ ghost use Rattle.pv_object.specs.Later.{IsLater};
 ghost use Rattle.pv_object.specs.Operations.{to_int, to_ptr};
 ghost use Rattle.pv_world.specs.Worlds.{with_table};
 ghost use Rattle.pv_world.specs.Telling.{exposures, all_told};
-ghost use Rattle.pv_world.specs.Worths.{unplain, int_of, pointer_of};
-ghost use Rattle.pv_world.specs.Conversions.{converts, number_by, pointed};
+ghost use Rattle.pv_world.specs.Worths.{why_not_set, int_of, pointer_of};
+ghost use Rattle.pv_world.specs.Conversions.{converts, number_by, pointer_by_number};
 ghost use Rattle.pv_world.specs.Coming.{Did, worth_of, IsMadeWorth};
 
 use crate::failing::{blame_of, fail, stopped_after};
@@ -91,7 +91,7 @@ impl World {
     // The pointer of a number; two instances that fit make a pair.
     #[tactic(auto, using(crate::proofs::Comings::came_fails, crate::proofs::Laters::later_itself, crate::proofs::Laters::later_both, crate::proofs::Laters::made_later))]
     fn pointer_at(&mut self, n: i128, told: &mut Vec<What>) -> Result<Got, Failure>
-        ensures did { Did worth_of (λ w. pointed w (to_ptr w.memory.table n)) result self.old self.new told.old.items told.new.items }
+        ensures did { Did worth_of (λ w. pointer_by_number w (to_ptr w.memory.table n)) result self.old self.new told.old.items told.new.items }
         ensures later { IsLater self.old.memory.table self.new.memory.table }
         ensures memory { self.new ≡ record self.old { memory = self.new.memory } }
         ensures made { IfOk result (λ g. IsMadeWorth self.new.memory.table (worth_of g)) }

@@ -4,9 +4,9 @@ ghost use Rattle.pv_script.specs.Names.{name_at as text_of};
 ghost use Rattle.pv_inst.specs.Answers.{IsLive};
 ghost use Rattle.pv_world.specs.Objects.{instance_of, literal_of, function_of, address_of, owning, bind, makes_object, ends_object, object_request};
 ghost use Rattle.pv_world.specs.ObjectParts.{owned_next};
-ghost use Rattle.pv_world.specs.Telling.{made};
+ghost use Rattle.pv_world.specs.Telling.{event_of_making};
 ghost use Rattle.pv_watch.specs.declared.event.What.{What};
-ghost use Rattle.pv_world.specs.Coming.{Did, no_worth, CameMade, seen};
+ghost use Rattle.pv_world.specs.Coming.{Did, no_worth, CameMade, coming_of};
 
 use crate::got::Failure;
 use crate::telling::{tell, tell_made};
@@ -104,7 +104,7 @@ impl World {
         requires sized { 1 ≤ size }
         requires aligned { 1 ≤ align }
         requires heap { text_of names.now name ≢ codes "@heap" }
-        ensures did { CameMade name result self.new told.new.items (seen told.old.items self.old (makes_object object lasting (object_request name (text_of names.now name) size align constant) self.old)) }
+        ensures did { CameMade name result self.new told.new.items (coming_of told.old.items self.old (makes_object object lasting (object_request name (text_of names.now name) size align constant) self.old)) }
     {
         match self
             .memory
@@ -128,7 +128,7 @@ impl World {
     ) -> Result<(), NoMemory>
         requires { IsLive self.old.memory.table.instances i }
         ensures world { OnOk result (self.new ≡ bind (owning self.old self.old.memory i (Some object)) object lasting i) }
-        ensures told { OnOk result (told.new.items ≡ told.old.items ++ made self.old.memory.table i) }
+        ensures told { OnOk result (told.new.items ≡ told.old.items ++ event_of_making self.old.memory.table i) }
     {
         match own(&mut self.owners, i, Some(object)) {
             Ok(()) => {}

@@ -2,7 +2,7 @@
 ghost use Rattle.std.specs.Prelude.{◌≡◌};
 ghost use Rattle.std.specs.Option.{option_map};
 ghost use Rattle.pv_inst.specs.Table.{Table, IsMadeIn};
-ghost use Rattle.pv_world.specs.Worths.{missing_value, unplain, unpresent, int_of, pointer_of, truth_int};
+ghost use Rattle.pv_world.specs.Worths.{missing_value, why_not_set, why_missing, int_of, pointer_of, truth_int};
 ghost use Rattle.pv_world.specs.Coming.{worth_of, wrong_for, IsMadeWorth};
 ghost use Rattle.pv_world.specs.PointerParts.{uneven};
 
@@ -13,7 +13,7 @@ use pv_prov::Prov;
 
 /// Why a value can't be operated on: it is missing (6.9.1p12), or it was never set (6.3.2.1p2).
 pub(crate) fn unplain(v: &Got) -> Option<Cause>
-    ensures { option_map wrong_for result ≡ unplain (worth_of v.now) }
+    ensures { option_map wrong_for result ≡ why_not_set (worth_of v.now) }
 {
     match v {
         Got::Missing => Some(missing()),
@@ -24,7 +24,7 @@ pub(crate) fn unplain(v: &Got) -> Option<Cause>
 
 /// Why a value can't be passed on: it is missing.
 pub(crate) fn unpresent(v: &Got) -> Option<Cause>
-    ensures { option_map wrong_for result ≡ unpresent (worth_of v.now) }
+    ensures { option_map wrong_for result ≡ why_missing (worth_of v.now) }
 {
     match v {
         Got::Missing => Some(missing()),

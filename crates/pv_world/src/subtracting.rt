@@ -2,7 +2,7 @@
 ghost use Rattle.std.specs.Prelude.{◌≡◌, ◌≤◌, ◌++◌, ◌-ℤ◌, ◌&&◌, nat_le, pos, OnOk, IfOk};
 ghost use Rattle.pv_inst.specs.Table.{IsMadeIn};
 ghost use Rattle.pv_object.specs.Later.{IsLater};
-ghost use Rattle.pv_world.specs.Telling.{used};
+ghost use Rattle.pv_world.specs.Telling.{event_of_use};
 ghost use Rattle.pv_world.specs.Pointers.{subtracts, in_elements};
 ghost use Rattle.pv_world.specs.PointerParts.{between};
 ghost use Rattle.pv_world.specs.Suiting.{where_suiting, knows_both};
@@ -26,7 +26,7 @@ pub(crate) fn tell_both(
     left: Tried,
     right: Tried,
 ) -> Result<(), NoMemory>
-    ensures { OnOk result (told.new.items ≡ told.old.items ++ (used test left ++ used test right)) }
+    ensures { OnOk result (told.new.items ≡ told.old.items ++ (event_of_use test left ++ event_of_use test right)) }
 {
     match tell_used(told, test, left) {
         Ok(()) => tell_used(told, test, right),

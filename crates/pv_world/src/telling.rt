@@ -2,7 +2,7 @@
 ghost use Rattle.std.specs.Prelude.{◌≡◌, ◌+◌, ◌≤◌, ◌++◌, [], ◌∷◌, OnOk, length, drop};
 ghost use Rattle.pv_inst.specs.Answers.{IsLive};
 ghost use Rattle.pv_object.specs.Memory.{with_table};
-ghost use Rattle.pv_world.specs.Telling.{used, made, exposures, all_told, each_paired};
+ghost use Rattle.pv_world.specs.Telling.{event_of_use, event_of_making, exposures, all_told, each_paired};
 
 use pv_inst::Tried;
 use pv_object::Memory;
@@ -20,7 +20,7 @@ pub fn tell(told: &mut Vec<What>, what: What) -> Result<(), NoMemory>
 /// Tells a use by the test with this number, where its name stood for two.
 #[inline(always)]
 pub fn tell_used(told: &mut Vec<What>, test: u8, tried: Tried) -> Result<(), NoMemory>
-    ensures { OnOk result (told.new.items ≡ told.old.items ++ used test tried) }
+    ensures { OnOk result (told.new.items ≡ told.old.items ++ event_of_use test tried) }
 {
     match tried.pair {
         Some(pair) => tell(
@@ -39,7 +39,7 @@ pub fn tell_used(told: &mut Vec<What>, test: u8, tried: Tried) -> Result<(), NoM
 /// Tells a live instance that was made.
 pub fn tell_made(told: &mut Vec<What>, memory: &Memory, i: u64) -> Result<(), NoMemory>
     requires { IsLive memory.now.table.instances i }
-    ensures { OnOk result (told.new.items ≡ told.old.items ++ made memory.now.table i) }
+    ensures { OnOk result (told.new.items ≡ told.old.items ++ event_of_making memory.now.table i) }
 {
     let Some(x) = memory.instances().info(i) else {
         unreachable!();

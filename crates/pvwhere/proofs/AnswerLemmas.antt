@@ -3,7 +3,7 @@ use Rattle.std.proofs.Common.{◌≡◌, ℕ, ◌+◌, List, take, sym, ap, ◌�
 use Rattle.std.specs.Prelude.{Some, Result, Ok, Err}
 use Rattle.std.proofs.lemmas.List.{take-take, take_all}
 use Rattle.pv_where.specs.Texts.{place_text}
-use Rattle.pv_typed.specs.Tables.{Stored, whole}
+use Rattle.pv_typed.specs.Tables.{Stored, whole_unit}
 use Rattle.pv_serve.specs.declared.checking.Refused.{Refused}
 use Rattle.pv_serve.specs.Verdicts.{Refusal}
 use Rattle.pv_serve.specs.Readings.{Reading, Program, Bad}
@@ -50,7 +50,7 @@ pub word_by : (r k : Refused) (word : List ℕ) → r ≡ k → word ≡ word_of
 word_by r k word e is = is ∙ sym (ap (λ (x : Refused). word_of (refusal_of x)) e)
 
 -- what the check answered
-pub reads_ok : (source : List ℕ) (r : Result Stored Refused) (unit : Stored) → r ≡ Ok unit → Reads source (reading_of r) → Reads source (Program (whole unit))
+pub reads_ok : (source : List ℕ) (r : Result Stored Refused) (unit : Stored) → r ≡ Ok unit → Reads source (reading_of r) → Reads source (Program (whole_unit unit))
 reads_ok source r unit e reads = subst (λ (x : Result Stored Refused). Reads source (reading_of x)) e reads
 
 pub reads_err : (source : List ℕ) (r : Result Stored Refused) (why : Refused) → r ≡ Err why → Reads source (reading_of r) → Reads source (Bad (refusal_of why))

@@ -7,7 +7,7 @@ use Rattle.pv_token.specs.declared.token_table.Token.{Token}
 use Rattle.pv_token.specs.Said.{Said, Spelt}
 use Rattle.pv_token.specs.Table.{Table, says, spelt_of}
 use Rattle.pv_lex.specs.Pieces.{What, White, Comment, Marker, Spelling, Piece}
-use Rattle.pv_lex.specs.Rows.{Place, behind_piece, spelt_here, spelt}
+use Rattle.pv_lex.specs.Rows.{Place, behind_piece, spelt_here, tokens_among}
 use Rattle.pv_lex.specs.Lexes.{Lexes}
 use Rattle.pvwhere.specs.Places.{start_of, is_named, first_named}
 
@@ -47,10 +47,10 @@ here_within end start line (Comment n) ss le h = h
 here_within end start line (Marker n) ss le h = h
 here_within end start line (Spelling s) ss le h = (le, h)
 
-spelt_within : (whole : ℕ) (p : Place) (xs : List Piece) → Within whole (spelt whole p xs)
+spelt_within : (whole : ℕ) (p : Place) (xs : List Piece) → Within whole (tokens_among whole p xs)
 spelt_within whole p [] = tt
 spelt_within whole p (x ∷ xs) =
-    here_within whole (whole - length p.text) p.line x.what (spelt whole (behind_piece x p) xs) (omega arith) (spelt_within whole (behind_piece x p) xs)
+    here_within whole (whole - length p.text) p.line x.what (tokens_among whole (behind_piece x p) xs) (omega arith) (spelt_within whole (behind_piece x p) xs)
 
 abbrev pub BeginWithin : (end : ℕ) → List Token → Type 0
 BeginWithin end [] = Unit {0}
@@ -71,7 +71,7 @@ told_within end names texts (t ∷ ts) (s ∷ ss) e h =
 
 pub lexed_within : (source : List ℕ) (t : Table) → Lexes source t → BeginWithin (length source) t.tokens
 lexed_within source t l =
-    told_within (length source) t.names t.texts t.tokens (spelt (length source) (record { text = source; line = 1; fresh = true }) l.pieces) l.tells.tokens
+    told_within (length source) t.names t.texts t.tokens (tokens_among (length source) (record { text = source; line = 1; fresh = true }) l.pieces) l.tells.tokens
     (spelt_within (length source) (record { text = source; line = 1; fresh = true }) l.pieces)
 
 pub start_within : (end : ℕ) (ts : List Token) (i : ℕ) → BeginWithin end ts → start_of end (drop i ts) ≤ end

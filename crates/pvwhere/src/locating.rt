@@ -2,7 +2,7 @@
 ghost use Rattle.std.specs.Prelude.{◌≡◌, ◌⊎◌, ℕ, List, Some, IsNone};
 ghost use Rattle.pv_script.specs.Calm.{calm_held, calm_written};
 ghost use Rattle.pv_serve.specs.Words.{texts};
-ghost use Rattle.pv_serve.specs.Outside.{sunk};
+ghost use Rattle.pv_serve.specs.Outside.{sink_change};
 ghost use Rattle.pv_serve.specs.Replies.{ReplyCall, Replied, SomeReply, IsReplied};
 ghost use Rattle.pvwhere.specs.Words.{file_of};
 ghost use Rattle.pvwhere.specs.Answers.{service};
@@ -31,7 +31,7 @@ pub fn locate<F: Files, O: Sink>(alloc: Global, words: &[String], files: &mut F,
       held = F.held files.old;
       faults_old = F.faults files.old;
       faults_new = F.faults files.new;
-      report = sunk O.written O.faults out.old out.new;
+      report = sink_change O.written O.faults out.old out.new;
       status = result;
     } in Replied service call }
     ensures files_same { (n : List ℕ) → F.held files.new n ≡ F.held files.old n }
@@ -48,7 +48,7 @@ pub fn locate<F: Files, O: Sink>(alloc: Global, words: &[String], files: &mut F,
 // Tells where the source in a file is refused.
 fn locate_in<F: Files, O: Sink>(alloc: Global, name: &str, files: &mut F, out: &mut O) -> u8
     ensures served { FileServed name.now (F.held files.old) (F.faults files.old) (F.faults files.new)
-        (sunk O.written O.faults out.old out.new) result }
+        (sink_change O.written O.faults out.old out.new) result }
     ensures files_same { (n : List ℕ) → F.held files.new n ≡ F.held files.old n }
 {
     match read_all(alloc, files, name, SOURCE_LIMIT) {
@@ -60,7 +60,7 @@ fn locate_in<F: Files, O: Sink>(alloc: Global, name: &str, files: &mut F, out: &
 
 // Tells where a source is refused.
 fn answer<O: Sink>(alloc: Global, name: &str, source: &[u8], out: &mut O) -> u8
-    ensures { SourceServed name.now source.now (sunk O.written O.faults out.old out.new) result }
+    ensures { SourceServed name.now source.now (sink_change O.written O.faults out.old out.new) result }
 {
     match told(alloc, name, source) {
         Err(_) => NO_MEMORY,
@@ -81,7 +81,7 @@ pub fn locate_calmly(
       held = λ n. Some (calm_held files.old n);
       faults_old = λ _. 0;
       faults_new = λ _. 0;
-      report = sunk calm_written (λ _. 0) out.old out.new;
+      report = sink_change calm_written (λ _. 0) out.old out.new;
       status = result;
     } in (result ≡ 13) ⊎ SomeReply service call (IsReplied call) }
 {

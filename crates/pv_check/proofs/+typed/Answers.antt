@@ -19,8 +19,8 @@ use Rattle.pv_check.specs.declared.derivations.Step.{Step}
 use Rattle.pv_check.specs.declared.parameters.Parameter.{Parameter}
 use Rattle.pv_check.specs.Arms.{after_node, OpenIf}
 use Rattle.pv_check.specs.Declarators.{after_steps, after_value, after_parameter, after_parameters, parameter_shown, parameters_shown, signature_if, steps_shown, ParameterKnown, StepsKnown}
-use Rattle.pv_check.specs.Derivations.{size_of, Parameter as WholeParameter, Steps as WholeSteps, derived, optional_name}
-use Rattle.pv_check.specs.Forms.{pointed}
+use Rattle.pv_check.specs.Derivations.{size_of, Parameter as WholeParameter, Steps as WholeSteps, derived_type, optional_name}
+use Rattle.pv_check.specs.Forms.{with_pointer}
 use Rattle.pv_check.specs.Growing.{IsType}
 use Rattle.pv_check.specs.ListedRows.{list_of}
 use Rattle.pv_check.specs.Open.{state_of, IsOpen, Goes, after_type}
@@ -425,14 +425,14 @@ type_names::type_name-returns-clause-answer t c = λ line.
     some_named (trees_at c.args.u.now.forest c.args.specs) (optional_at c.args.u.now.forest c.args.declarator) line (state_of c.args.t.now.texts c.args.unevaluated c.args.s.now c.args.into.now) c.args.t.now.texts c.args.unevaluated c.specified_type.new.into c.optional_steps.new.into c.derived_in.new.into c.optional_steps.new.s c.specified_type.new.s c.in-Some.base c.in-Some-2.steps c.in_ok-r.r
     (there (λ (x : TypeId). x.0 < length c.specified_type.new.into.known.terms) c.in-Some.is (is_type c.specified_type.new.into.known _ c.in_ok-base.ensures.known)) (there (λ x. Goes c.specified_type.new.into c.optional_steps.new.into) c.in-Some-2.is c.in_ok-steps.ensures.goes) (there (λ x. IsOpen c.optional_steps.new.into c.optional_steps.new.s) c.in-Some-2.is c.in_ok-steps.ensures.opened) c.in_ok-r.ensures.goes c.in_ok-r.ensures.whole
     (ap (after_type c.args.t.now.texts c.args.unevaluated c.specified_type.new.s c.specified_type.new.into) (sym c.in-Some.is) ∙ c.in_ok-base.ensures.answer) (ap (after_steps c.args.t.now.texts c.args.unevaluated c.optional_steps.new.s c.optional_steps.new.into) (sym c.in-Some-2.is) ∙ c.in_ok-steps.ensures.answer)
-    (c.in_ok-r.ensures.tree ∙ ap (λ xs. derived false (env c.optional_steps.new.into.known) (steps_in c.optional_steps.new.into.known xs) (tree c.optional_steps.new.into.known c.in-Some.base.0)) c.deref.ensures.value)
+    (c.in_ok-r.ensures.tree ∙ ap (λ xs. derived_type false (env c.optional_steps.new.into.known) (steps_in c.optional_steps.new.into.known xs) (tree c.optional_steps.new.into.known c.in-Some.base.0)) c.deref.ensures.value)
 
 pub declarators::steps_of-returns-in_ok-r-in-Paren-clause-answer : goal.declarators::steps_of-returns-in_ok-r-in-Paren-clause-answer
 declarators::steps_of-returns-in_ok-r-in-Paren-clause-answer t c = c.in_ok-r-in-Paren.ensures.answer ∙ c.in-Paren.ensures.answer c.args.t.now.texts c.args.unevaluated
 
 pub declarators::steps_of-returns-in_default-clause-answer : goal.declarators::steps_of-returns-in_default-clause-answer
 declarators::steps_of-returns-in_default-clause-answer t c =
-    none_within (optional_at c.args.u.now.forest c.in-Pointer.d) (state_of c.args.t.now.texts c.args.unevaluated c.args.s.now c.args.into.now) (pointed c.in-Pointer.constant)
+    none_within (optional_at c.args.u.now.forest c.in-Pointer.d) (state_of c.args.t.now.texts c.args.unevaluated c.args.s.now c.args.into.now) (with_pointer c.in-Pointer.constant)
     (ap (after_steps c.args.t.now.texts c.args.unevaluated c.optional_steps.new.s c.optional_steps.new.into) (sym c.in_default.is) ∙ c.in_ok-x-in-Pointer.ensures.answer)
     ∙ c.in-Pointer.ensures.answer c.args.t.now.texts c.args.unevaluated
 

@@ -9,13 +9,13 @@ use Rattle.pv_inst.specs.declared.values.Test.TheVariants.{Block}
 use Rattle.pv_inst.specs.declared.values.Tried.{Tried}
 use Rattle.pv_inst.specs.declared.values.Miss.{Miss}
 use Rattle.pv_inst.specs.Table.{Table, instance_at}
-use Rattle.pv_inst.specs.Use.{use_answer, settled}
+use Rattle.pv_inst.specs.Use.{use_answer, after_use}
 use Rattle.pv_object.specs.declared.values.Pointer.{Pointer}
 use Rattle.pv_object.specs.declared.values.Asker.{Asker}
 use Rattle.pv_object.specs.declared.values.Reach.{Reach}
 use Rattle.pv_object.specs.declared.values.Stop.{Stop}
-use Rattle.pv_object.specs.Access.{reach, chosen}
-use Rattle.pv_object.specs.Creating.{created, made}
+use Rattle.pv_object.specs.Access.{reach, first_survivor}
+use Rattle.pv_object.specs.Creating.{creation, with_new_bytes}
 use Rattle.pv_object.specs.Memory.{Mem}
 use Rattle.pv_object.proofs.Survivors.{settled_instances}
 use Rattle.pv_inst.specs.declared.values.CreateError.{CreateError}
@@ -23,8 +23,8 @@ use Rattle.pv_inst.specs.declared.values.CreateError.TheVariants as error
 use Rattle.pv_inst.specs.Placing.{place}
 use Rattle.pv_libc.specs.declared.values.Note.{Note}
 use Rattle.pv_libc.specs.declared.values.Reply.{Reply}
-use Rattle.pv_libc.specs.Steps.{Now, Did, about_by, reached, reached_by}
-use Rattle.pv_libc.specs.Heap.{told_of, granted, requested, block_in, the_block, block_answer, block_by, block, both}
+use Rattle.pv_libc.specs.Steps.{Now, Did, about_by, reach_for, reached_by}
+use Rattle.pv_libc.specs.Heap.{told_of, grant_of, request_of_bytes, block_in, the_block, block_answer, block_by, block, after_block_copy}
 use Rattle.pv_libc.specs.HeapParts.{heap_request}
 use Rattle.pv_libc.proofs.Reaches.{whole_reach}
 use Rattle.pv_exec.proofs.Memory.Reached.{AreInLive, IsAllocated, IsAllocation, chosen-block, reach-in-live, reach-reaches, reach-instances, in-live-same, allocation-placed}
@@ -42,7 +42,7 @@ the-block P c M (Some i) h = in-block P c i (told_of M i) (h i refl)
 
 answer-block : (U : Table) (c : Clause) (M : Mem) (p : Pointer) (r : Result Tried Miss) → U.instances ≡ M.table.instances → use_answer M.table p.prov (Block p.address) ≡ r → When (λ i. IsAllocation U i) (block_answer c M p r)
 answer-block U c M p (Ok tried) same e =
-    the-block (λ i. IsAllocation U i) c M (chosen (stands M.table.pairs p.prov) tried)
+    the-block (λ i. IsAllocation U i) c M (first_survivor (stands M.table.pairs p.prov) tried)
     (λ i f. subst (λ xs. IsAllocated (instance_at xs i)) (sym same) (chosen-block M.table p.prov p.address tried i e f))
 answer-block U c M p (Err m) same e = tt
 
@@ -54,14 +54,14 @@ pub block-is : (c : Clause) (g : _) (S : Now) → When (λ i. IsAllocation (bloc
 block-is c g S =
     let found = use_answer S.memory.table g.pointer.prov (Block g.pointer.address) in
     about-when (λ i T. IsAllocation T.memory.table i) (block_by c g S found).answer g.stopped (block_by c g S found)
-    (answer-block (settled S.memory.table g.pointer.prov found) c S.memory g.pointer found (settled_instances S.memory.table g.pointer.prov found) refl)
+    (answer-block (after_use S.memory.table g.pointer.prov found) c S.memory g.pointer found (settled_instances S.memory.table g.pointer.prov found) refl)
 
 -- 7.22.3.5p4: it is one still behind a request
 requested-if : (i : ℕ) (c : Bool) (d e : Did (Result ℕ Reply)) → IsAllocation d.after.memory.table i → IsAllocation e.after.memory.table i → IsAllocation (cond c d e).after.memory.table i
 requested-if i true d e h g = h
 requested-if i false d e h g = g
 
-granted-is : (i : ℕ) (S : Now) (w : Result ℕ CreateError × Table) → IsAllocation w.1 i → IsAllocation (granted S (made S.memory w)).after.memory.table i
+granted-is : (i : ℕ) (S : Now) (w : Result ℕ CreateError × Table) → IsAllocation w.1 i → IsAllocation (grant_of S (with_new_bytes S.memory w)).after.memory.table i
 granted-is i S (Ok j, U) h = h
 granted-is i S (Err error.Denied, U) h = h
 granted-is i S (Err error.NoMemory, U) h = h
@@ -70,14 +70,14 @@ granted-is i S (Err (error.Range k a), U) h = h
 granted-is i S (Err (error.Misaligned k a), U) h = h
 granted-is i S (Err (error.Overlap k a other), U) h = h
 
-pub requested-is : (n i : ℕ) (S : Now) → IsAllocation S.memory.table i → When (λ r. IsAllocation (requested n S).after.memory.table i) (requested n S).answer
+pub requested-is : (n i : ℕ) (S : Now) → IsAllocation S.memory.table i → When (λ r. IsAllocation (request_of_bytes n S).after.memory.table i) (request_of_bytes n S).answer
 requested-is n i S h =
     let r = heap_request n in
-    when-all _ (requested n S).answer (λ a.
-    requested-if i (eqb n 0) _ (granted S (created S.memory r)) h (granted-is i S (place S.memory.table r) (allocation-placed S.memory.table r i h)))
+    when-all _ (request_of_bytes n S).answer (λ a.
+    requested-if i (eqb n 0) _ (grant_of S (creation S.memory r)) h (granted-is i S (place S.memory.table r) (allocation-placed S.memory.table r i h)))
 
 -- 7.22.3.5p2: a copy changes no instance
-pub both-table : (o p : Option Info) (M : Mem) → (both o p M).table ≡ M.table
+pub both-table : (o p : Option Info) (M : Mem) → (after_block_copy o p M).table ≡ M.table
 both-table (Some x) (Some y) M = refl
 both-table (Some x) None M = refl
 both-table None (Some y) M = refl
@@ -88,7 +88,7 @@ when-ok : (P : Reach → Type 0) (r : Result Reach Stop) → IfOk r P → When P
 when-ok P (Ok a) h = h
 when-ok P (Err y) h = tt
 
-pub reached-is : (by : Asker) (write : Bool) (g : _) (n : ℕ) (S : Now) → When (λ r. AreInLive (reached by write g n S).after.memory.table r.address n) (reached by write g n S).answer
+pub reached-is : (by : Asker) (write : Bool) (g : _) (n : ℕ) (S : Now) → When (λ r. AreInLive (reach_for by write g n S).after.memory.table r.address n) (reach_for by write g n S).answer
 reached-is by write g n S =
     let got = reach S.memory.table g.pointer n 1 write by in
     about-when (λ r T. AreInLive T.memory.table r.address n) got.0 g.stopped (reached_by by write g n S got)
@@ -104,12 +104,12 @@ when-with Q P (Err y) q h = tt
 
 -- 7.24.2.1p2: what was reached before is there still
 pub both-reached : (by : Asker) (write : Bool) (g : _) (n : ℕ) (S : Now) (a k : ℕ) → AreInLive S.memory.table a k
-    → When (λ r. AreInLive (reached by write g n S).after.memory.table a k × AreInLive (reached by write g n S).after.memory.table r.address n) (reached by write g n S).answer
+    → When (λ r. AreInLive (reach_for by write g n S).after.memory.table a k × AreInLive (reach_for by write g n S).after.memory.table r.address n) (reach_for by write g n S).answer
 both-reached by write g n S a k h =
     let got = reach S.memory.table g.pointer n 1 write by in
-    let T = (reached by write g n S).after.memory.table in
+    let T = (reach_for by write g n S).after.memory.table in
     let same = about-same got.0 g.stopped (reached_by by write g n S got) S.memory.table.instances (reach-instances S.memory.table g.pointer n 1 write by) in
-    when-with (AreInLive T a k) (λ r. AreInLive T r.address n) (reached by write g n S).answer (in-live-same S.memory.table T a k same h) (reached-is by write g n S)
+    when-with (AreInLive T a k) (λ r. AreInLive T r.address n) (reach_for by write g n S).answer (in-live-same S.memory.table T a k same h) (reached-is by write g n S)
 
 -- 6.2.4p2: the first bytes of what is told of
 pub told-in-live : (M : Mem) (i : ℕ) (x : Info) (n : ℕ) → told_of M i ≡ Some x → n ≤ x.size → AreInLive M.table x.base n

@@ -7,7 +7,7 @@ use Rattle.pv_inst.specs.Table.{Table, IsMadeIn}
 use Rattle.pv_shadow.specs.declared.byte.Byte.{Byte}
 use Rattle.pv_object.specs.Memory.{Mem}
 use Rattle.pv_libc.specs.declared.values.Arg.{Arg}
-use Rattle.pv_libc.specs.Calls.{called}
+use Rattle.pv_libc.specs.Calls.{reply_to_call}
 use Rattle.pv_typed.specs.Known.{Each}
 use Rattle.pv_exec.proofs.Memory.Reached.{allocation-lives}
 use Rattle.pv_exec.proofs.Memory.Ways.{Changes, Ways, IsCharacter}
@@ -34,5 +34,5 @@ along changes = record {
   copies = λ M to from n l k. changes.copies M to from n l k;
 }
 
-pub called-leads : {F : Type 0} {R : Mem → Mem → Type 0} (changes : Changes F R) (f : Library) (args : List Arg) (M : Mem) → R M (called f args M).after.memory
+pub called-leads : {F : Type 0} {R : Mem → Mem → Type 0} (changes : Changes F R) (f : Library) (args : List Arg) (M : Mem) → R M (reply_to_call f args M).after.memory
 called-leads changes f args M = called-closed (along changes) f args M

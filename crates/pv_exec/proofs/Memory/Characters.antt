@@ -16,9 +16,9 @@ use Rattle.pv_object.specs.declared.values.Value.TheVariants as value
 use Rattle.pv_shadow.specs.Whole.{number_in}
 use Rattle.pv_object.specs.Loading.{Loaded, load, integer_of}
 use Rattle.pv_libc.specs.declared.values.Note.{Note}
-use Rattle.pv_libc.specs.Steps.{Now, Did, next, next_by, about, about_by, reached, further}
+use Rattle.pv_libc.specs.Steps.{Now, Did, next, next_by, about, about_by, reach_for, bytes_further}
 use Rattle.pv_libc.specs.Characters.{character_of, character_loaded, character_in, character_at, string_from, most, string_at}
-use Rattle.pv_shadow.specs.Bytes.{read}
+use Rattle.pv_shadow.specs.Bytes.{bytes_from}
 use Rattle.pv_typed.specs.Known.{Each}
 use Rattle.pv_exec.proofs.Memory.Ways.{When}
 
@@ -75,10 +75,10 @@ integer-small T bytes (Some n) = equal_fits UChar (pos n) (convert_of UChar (pos
 character-small : (g : _) (a : ℕ) (S : Now) → When IsSmall (character_in g a S).answer
 character-small g a S =
     when-about IsSmall g.stopped (character_loaded S (load S.memory a (scalar.Int UChar)))
-    (small-of (load S.memory a (scalar.Int UChar)).0 (integer-small S.memory.table (read S.memory.bytes a 1) (number_in (read S.memory.bytes a 1))))
+    (small-of (load S.memory a (scalar.Int UChar)).0 (integer-small S.memory.table (bytes_from S.memory.bytes a 1) (number_in (bytes_from S.memory.bytes a 1))))
 
 at-small : (by : Asker) (g : _) (i : ℕ) (S : Now) → When IsSmall (character_at by g i S).answer
-at-small by g i S = when-next (λ r. Unit {0}) IsSmall (reached by false (further g i) 1 S) _ (when-all _ _ (λ r. tt)) (λ r T p. character-small g r.address T)
+at-small by g i S = when-next (λ r. Unit {0}) IsSmall (reach_for by false (bytes_further g i) 1 S) _ (when-all _ _ (λ r. tt)) (λ r T p. character-small g r.address T)
 
 push-small : (vs : List ℕ) (v : ℕ) → Each IsSmall vs → v < 256 → Each IsSmall (vs ++ v ∷ [])
 push-small [] v h l = (l, tt)

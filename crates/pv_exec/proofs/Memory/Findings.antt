@@ -8,7 +8,7 @@ use Rattle.std.proofs.lemmas.Option.{none-some}
 use Rattle.std.proofs.lemmas.List.Elements.{All-push}
 use Rattle.std.proofs.lemmas.List.Quantifiers.{position-Some}
 use Rattle.pv_prov.specs.declared.pairs.Twin.{Twin}
-use Rattle.pv_prov.specs.Names.{nobody, added}
+use Rattle.pv_prov.specs.Names.{nobody, with_twin}
 use Rattle.pv_inst.specs.declared.values.Instance.{Instance}
 use Rattle.pv_inst.specs.declared.values.Kind.TheVariants.{Heap}
 use Rattle.pv_inst.specs.Table.{Table, instance_at}
@@ -89,7 +89,7 @@ module _ {F : Type 0} where
   both-leads T a None (Some i) e f = led-itself
   both-leads T a (Some i) None e f = led-itself
   both-leads T a (Some i) (Some j) e f =
-      pairs-led T.instances T.pairs (added T.pairs i j) (added-settle T.pairs i j)
+      pairs-led T.instances T.pairs (with_twin T.pairs i j) (added-settle T.pairs i j)
       (λ s. met_added T.instances T.pairs i j (found-met T.instances a i j s.apart e f) s.met)
       (λ s. All-push (λ (t : Twin). IsTrue (t.keeps_low || t.keeps_high)) T.pairs (record { low = i; high = j; keeps_low = true; keeps_high = true }) s.one refl)
 

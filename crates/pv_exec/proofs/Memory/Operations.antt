@@ -14,8 +14,8 @@ use Rattle.pv_object.specs.declared.values.Reach.{Reach}
 use Rattle.pv_object.specs.declared.values.Stop.{Stop}
 use Rattle.pv_object.specs.declared.values.Value.TheVariants.{Int as IntValue, Unset, Pointer as PointerValue}
 use Rattle.pv_object.specs.Memory.{Mem}
-use Rattle.pv_shadow.specs.Bytes.{read}
-use Rattle.pv_shadow.specs.Whole.{plain}
+use Rattle.pv_shadow.specs.Bytes.{bytes_from}
+use Rattle.pv_shadow.specs.Whole.{number_bytes}
 use Rattle.pv_typed.specs.TypedUnits.{TypedObject, layouts, object_at, function_at, literal_at}
 use Rattle.pv_script.specs.Names.{name_at as text_of}
 use Rattle.pv_library.specs.declared.library.Library.{Library}
@@ -24,11 +24,11 @@ use Rattle.pv_libc.specs.declared.values.Arg.{Arg}
 use Rattle.pv_libc.specs.declared.values.Reply.{Reply}
 use Rattle.pv_libc.specs.declared.values.Reply.TheVariants as reply
 use Rattle.pv_libc.specs.Steps.{Now}
-use Rattle.pv_libc.specs.Calls.{called, output}
+use Rattle.pv_libc.specs.Calls.{reply_to_call, output}
 use Rattle.pv_world.specs.Worlds.{Worth, Nothing, Missing, Scalar, Whole, World}
-use Rattle.pv_world.specs.Worths.{truth_int, pointer_of, unplain, unpresent}
+use Rattle.pv_world.specs.Worths.{truth_int, pointer_of, why_not_set, why_missing}
 use Rattle.pv_world.specs.Conversions.{opposite}
-use Rattle.pv_world.specs.Telling.{Told, quiet}
+use Rattle.pv_world.specs.Telling.{Told, no_telling}
 use Rattle.pv_world.specs.Doing.{Done}
 use Rattle.pv_world.specs.Coming.{IsMadeWorth}
 use Rattle.pv_world.specs.Accesses.{is_inexact, stored_as}
@@ -41,7 +41,7 @@ use Rattle.pv_eval.specs.Accesses.{access_to, reads_permitted, reads_at, reads, 
 use Rattle.pv_eval.specs.Objects.{where_possible, heap_name, request_of, makes, instance_for, ends, makes_literal, makes_function, can_fill, fills, can_put, puts, text_for, can_put_text, puts_text, can_make}
 use Rattle.pv_eval.specs.ObjectParts.{can_place}
 use Rattle.pv_eval.specs.Callees.{may_call}
-use Rattle.pv_eval.specs.Library.{replied, with_memory, asked, asks}
+use Rattle.pv_eval.specs.Library.{done_by_reply, with_memory, done_by_call, asks}
 use Rattle.pv_world.specs.Suiting.{is_size, is_stored, is_live, has_room, knows_worth, live_in}
 use Rattle.pv_eval.specs.Operations.{Op, Converts, Calculates, CalculatesOne, Tests, Negates, Accepts, Needs, Moves, Subtracts, Orders, Equals, Follows, Selects, Finds, TakesPart, Reads, Writes, NamesObject, NamesLiteral, NamesFunction, Makes, MakesLiteral, MakesFunction, Ends, BeginsBody, EndsBody, Fills, Puts, PutsText, Asks, suits, works, does}
 use Rattle.pv_eval.proofs.Closed.{IsLvalue, IsAsked}
@@ -93,7 +93,7 @@ module _ {F : Type 0} {R : Mem → Mem → Type 0} (changes : Changes F R) where
   permitted-on : (l : Lvalue) (p : Pointer) (rivals : List Access) (at : Reach) (w : World) (t : Told) → Onward R w (reads_permitted l p rivals at w t)
   permitted-on l p rivals at w t =
       if-on (conflicts (access_to l p false) rivals) w _ _ (record { leads = changes.itself })
-      (λ e. worth-on changes w (read w.memory.bytes at.address l.size) l.shape (Some at.address) (Some p.prov) t)
+      (λ e. worth-on changes w (bytes_from w.memory.bytes at.address l.size) l.shape (Some at.address) (Some p.prov) t)
 
   reads-at : (b : Setting) (l : Lvalue) (p : Pointer) (rivals : List Access) (at : Reach) (w : World) (t : Told) → Onward R w (reads_at b l p rivals at w t)
   reads-at b l p rivals at w t = if-on (permits b w l at false) w _ _ (permitted-on l p rivals at w t) (λ e. record { leads = changes.itself })
@@ -118,24 +118,24 @@ module _ {F : Type 0} {R : Mem → Mem → Type 0} (changes : Changes F R) where
       → Onward R w (writes b l place v from rivals w)
   writes-on b l place v from rivals w is fits known =
       let bytes = stored_as l.number l.shape v in
-      unless-on changes (unpresent v) w _ (reaching-on changes (pointer_of place) l.size l.align true w (writes_at b l (pointer_of place) v from rivals) (λ at u t later within.
+      unless-on changes (why_missing v) w _ (reaching-on changes (pointer_of place) l.size l.align true w (writes_at b l (pointer_of place) v from rivals) (λ at u t later within.
       writes-at b l (pointer_of place) v from rivals at u t (subst (λ n. AreInLive u.memory.table at.address n) (sym (stored-length b l v is fits)) within)
       (made-still w.memory.table u.memory.table bytes later (stored-made w.memory.table l.number l.shape v (worth_made w.memory.table v known)))))
 
   -- calls of the library
-  replied-on : (r : Reply) (u w : World) (t : Told) → R u.memory w.memory → Onward R u (replied r w t)
+  replied-on : (r : Reply) (u w : World) (t : Told) → R u.memory w.memory → Onward R u (done_by_reply r w t)
   replied-on reply.Nothing u w t h = record { leads = h }
   replied-on (reply.Value v) u w t h = record { leads = h }
   replied-on (reply.Exit n) u w t h = record { leads = h }
   replied-on reply.Abort u w t h = record { leads = h }
   replied-on (reply.Placement e) u w t h = record { leads = h }
 
-  asked-on : (w : World) (text : List ℕ) (r : Result Reply Stop) (S : Now) → R w.memory S.memory → Onward R w (asked w text r S)
+  asked-on : (w : World) (text : List ℕ) (r : Result Reply Stop) (S : Now) → R w.memory S.memory → Onward R w (done_by_call w text r S)
   asked-on w text (Ok r) S h = replied-on r w (with_memory w S.memory) _ h
   asked-on w text (Err y) S h = record { leads = h }
 
   asks-on : (f : Library) (args : List Arg) (w : World) → Onward R w (asks f args w)
-  asks-on f args w = asked-on w (output f args w.memory) (called f args w.memory).answer (called f args w.memory).after (called-leads changes f args w.memory)
+  asks-on f args w = asked-on w (output f args w.memory) (reply_to_call f args w.memory).answer (reply_to_call f args w.memory).after (called-leads changes f args w.memory)
 
 module _ (b : Setting) {R : Mem → Mem → Type 0} (changes : Changes (Filled b) R) where
   makes-on : (o : ℕ) (w : World) → Onward R w (makes b o w)
@@ -166,7 +166,7 @@ module _ (b : Setting) {R : Mem → Mem → Type 0} (changes : Changes (Filled b
       possible-on changes (can_fill b o w) w _ (λ c.
       let room : AreInLive T (base_in w i + 0) n = room-in-live w i 0 n (right_of (is_size n) (has_room w i 0 n) c) in
       let here : base_in w i + 0 ≡ base_in w i = omega arith in
-      put-on changes Nothing w (base_in w i) bytes quiet
+      put-on changes Nothing w (base_in w i) bytes no_telling
       (subst (λ k. AreInLive T (base_in w i) k) (sym (length-replicate n (filling v))) (subst (λ a. AreInLive T a n) here room)) (filling-made T n v))
 
   puts-on : (o offset : ℕ) (l : Lvalue) (v : Worth) (w : World) → IsLvalue b l → Onward R w (puts b o offset l v w)
@@ -177,7 +177,7 @@ module _ (b : Setting) {R : Mem → Mem → Type 0} (changes : Changes (Filled b
       let rest = right_of (is_size l.size) ((is_stored l.shape l.size v && knows_worth T v) && has_room w i offset l.size) c in
       let both = left_of (is_stored l.shape l.size v && knows_worth T v) (has_room w i offset l.size) rest in
       let room = room-in-live w i offset l.size (right_of (is_stored l.shape l.size v && knows_worth T v) (has_room w i offset l.size) rest) in
-      put-on changes Nothing w (base_in w i + offset) (stored_as l.number l.shape v) quiet
+      put-on changes Nothing w (base_in w i + offset) (stored_as l.number l.shape v) no_telling
       (subst (λ n. AreInLive T (base_in w i + offset) n) (sym (stored-length b l v is (left_of (is_stored l.shape l.size v) (knows_worth T v) both))) room)
       (stored-made T l.number l.shape v (worth_made T v (right_of (is_stored l.shape l.size v) (knows_worth T v) both))))
 
@@ -187,7 +187,7 @@ module _ (b : Setting) {R : Mem → Mem → Type 0} (changes : Changes (Filled b
       let i = instance_for b o w in
       let text = text_for b size l in
       possible-on changes (can_put_text b o offset size l w) w _ (λ c.
-      put-on changes Nothing w (base_in w i + offset) (plain None 0 text) quiet
+      put-on changes Nothing w (base_in w i + offset) (number_bytes None 0 text) no_telling
       (subst (λ n. AreInLive T (base_in w i + offset) n) (sym (plain-length None 0 text)) (room-in-live w i offset (length text) (right_of (is_size size) (has_room w i offset (length text)) c)))
       (plain-made T None 0 text))
 
@@ -196,14 +196,14 @@ module _ (b : Setting) {R : Mem → Mem → Type 0} (changes : Changes (Filled b
   subtracts-on size v x w e =
       let T = w.memory.table in
       let both = right_of (nat_le 1 size) (knows_worth T v && knows_worth T x) (right_of (is_size size) _ e) in
-      unless-on changes (unplain v) w _ (unless-on changes (unplain x) w _ (between-on changes size (pointer_of v) (pointer_of x) w
+      unless-on changes (why_not_set v) w _ (unless-on changes (why_not_set x) w _ (between-on changes size (pointer_of v) (pointer_of x) w
       (known-made T v (left_of (knows_worth T v) (knows_worth T x) both)) (known-made T x (right_of (knows_worth T v) (knows_worth T x) both))))
 
   orders-on : (op : BinOp) (v x : Worth) (w : World) → suits b (Orders op v x) w ≡ true → Onward R w (works b (Orders op v x) w)
   orders-on op v x w e =
       let T = w.memory.table in
       let both = right_of _ (knows_worth T v && knows_worth T x) e in
-      unless-on changes (unplain v) w _ (unless-on changes (unplain x) w _ (order-on changes op (pointer_of v) (pointer_of x) w
+      unless-on changes (why_not_set v) w _ (unless-on changes (why_not_set x) w _ (order-on changes op (pointer_of v) (pointer_of x) w
       (known-made T v (left_of (knows_worth T v) (knows_worth T x) both)) (known-made T x (right_of (knows_worth T v) (knows_worth T x) both))))
 
   works-on : (o : Op) → IsAsked b o → (w : World) → suits b o w ≡ true → Onward R w (works b o w)
@@ -212,8 +212,8 @@ module _ (b : Setting) {R : Mem → Mem → Type 0} (changes : Changes (Filled b
   works-on (CalculatesOne op k v) is w e = calculates-one-on changes op k v w
   works-on (Tests v) is w e = tests-on changes truth_int v w
   works-on (Negates v) is w e = tests-on changes opposite v w
-  works-on (Accepts v) is w e = unless-on changes (unpresent v) w _ (record { leads = changes.itself })
-  works-on (Needs v) is w e = unless-on changes (unplain v) w _ (record { leads = changes.itself })
+  works-on (Accepts v) is w e = unless-on changes (why_missing v) w _ (record { leads = changes.itself })
+  works-on (Needs v) is w e = unless-on changes (why_not_set v) w _ (record { leads = changes.itself })
   works-on (Moves minus first size v x) is w e = moves-on changes minus first size v x w
   works-on (Subtracts size v x) is w e = subtracts-on size v x w e
   works-on (Orders op v x) is w e = orders-on op v x w e

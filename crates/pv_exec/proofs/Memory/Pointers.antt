@@ -10,7 +10,7 @@ use Rattle.pv_inst.specs.declared.values.Test.TheVariants.{Live, Range, Code}
 use Rattle.pv_inst.specs.declared.values.Tried.{Tried}
 use Rattle.pv_inst.specs.declared.values.Miss.{Miss}
 use Rattle.pv_inst.specs.Table.{Table, IsMadeIn}
-use Rattle.pv_inst.specs.Use.{use_answer, settled}
+use Rattle.pv_inst.specs.Use.{use_answer, after_use}
 use Rattle.pv_inst.specs.Exposure.{expose}
 use Rattle.pv_inst.specs.Finding.{after_name, name_at}
 use Rattle.pv_shadow.specs.declared.byte.Byte.{Byte}
@@ -22,8 +22,8 @@ use Rattle.pv_object.specs.declared.values.Asker.{Asker}
 use Rattle.pv_object.specs.Access.{reach, reach_after, clause_of, is_null}
 use Rattle.pv_object.specs.Memory.{Mem, with_table}
 use Rattle.pv_object.specs.Loading.{value_of, integer_of, pointer_of, pointer_named, exposed_by, is_trap}
-use Rattle.pv_object.specs.Operations.{truth, equal, equal_after, recast, to_ptr, address_of, to_int, to_int_after, move_under, code, together, order}
-use Rattle.pv_object.specs.OperationParts.{moved}
+use Rattle.pv_object.specs.Operations.{truth, pointer_equality, equal_after, recast, to_ptr, address_of, to_int, to_int_after, move_under, code, together, order}
+use Rattle.pv_object.specs.OperationParts.{address_on}
 use Rattle.pv_exec.proofs.Memory.Ways.{Changes}
 
 -- the memory with another table
@@ -35,7 +35,7 @@ module _ {F : Type 0} {R : Mem → Mem → Type 0} (changes : Changes F R) where
   pair-if true M w v h g = h
   pair-if false M w v h g = g
 
-  after-leads : (M : Mem) (p : Pointer) (n align : ℕ) (write : Bool) (c : Clause) (r : Result Tried Miss) → Retabled R M (settled M.table p.prov r) → Retabled R M (reach_after M.table p n align write c r).1
+  after-leads : (M : Mem) (p : Pointer) (n align : ℕ) (write : Bool) (c : Clause) (r : Result Tried Miss) → Retabled R M (after_use M.table p.prov r) → Retabled R M (reach_after M.table p n align write c r).1
   after-leads M p n align write c (Err m) h = changes.itself
   after-leads M p n align write c (Ok tried) h = h
 
@@ -70,11 +70,11 @@ module _ {F : Type 0} {R : Mem → Mem → Type 0} (changes : Changes F R) where
   pub truth-leads : (M : Mem) (p : Pointer) → Retabled R M (truth M.table p).1
   truth-leads M p = changes.uses M p.prov Live
 
-  equal-after : (M : Mem) (p q : Pointer) (r : Result Tried Miss) → Retabled R M (settled M.table p.prov r) → Retabled R M (equal_after M.table p q r).1
+  equal-after : (M : Mem) (p q : Pointer) (r : Result Tried Miss) → Retabled R M (after_use M.table p.prov r) → Retabled R M (equal_after M.table p q r).1
   equal-after M p q (Err m) h = changes.itself
-  equal-after M p q (Ok left) h = changes.trans h (changes.uses (with_table M (settled M.table p.prov (Ok left))) q.prov Live)
+  equal-after M p q (Ok left) h = changes.trans h (changes.uses (with_table M (after_use M.table p.prov (Ok left))) q.prov Live)
 
-  pub equal-leads : (M : Mem) (p q : Pointer) → Retabled R M (equal M.table p q).1
+  pub equal-leads : (M : Mem) (p q : Pointer) → Retabled R M (pointer_equality M.table p q).1
   equal-leads M p q = equal-after M p q (use_answer M.table p.prov Live) (changes.uses M p.prov Live)
 
   pub to_ptr-leads : (M : Mem) (n : ℤ) → Retabled R M (to_ptr M.table n).1
@@ -83,10 +83,10 @@ module _ {F : Type 0} {R : Mem → Mem → Type 0} (changes : Changes F R) where
   pub recast-leads : (M : Mem) (p : Pointer) (align : ℕ) → Retabled R M (recast M.table p align).1
   recast-leads M p align = changes.uses M p.prov Live
 
-  to_int-after : (M : Mem) (p : Pointer) (k : IntKind) (r : Result Tried Miss) → Retabled R M (settled M.table p.prov r) → Retabled R M (to_int_after M.table p k r).1
+  to_int-after : (M : Mem) (p : Pointer) (k : IntKind) (r : Result Tried Miss) → Retabled R M (after_use M.table p.prov r) → Retabled R M (to_int_after M.table p k r).1
   to_int-after M p k (Err m) h = changes.itself
   to_int-after M p k (Ok tried) h =
-      let N = with_table M (settled M.table p.prov (Ok tried)) in
+      let N = with_table M (after_use M.table p.prov (Ok tried)) in
       changes.trans h (pair-if (fits_of k (pos p.address)) N _ _ (changes.exposes N p.prov) changes.itself)
 
   pub to_int-leads : (M : Mem) (p : Pointer) (k : IntKind) → Retabled R M (to_int M.table p k).1
@@ -95,7 +95,7 @@ module _ {F : Type 0} {R : Mem → Mem → Type 0} (changes : Changes F R) where
   pub move-leads : (c : Clause) (M : Mem) (p : Pointer) (by : ℤ) → Retabled R M (move_under c M.table p by).1
   move-leads c M p by =
       pair-if (is_null p) M _ _ changes.itself
-      (pair-if (is_empty p.prov) M _ _ changes.itself (changes.uses M p.prov (Range (moved p.address by) 0)))
+      (pair-if (is_empty p.prov) M _ _ changes.itself (changes.uses M p.prov (Range (address_on p.address by) 0)))
 
   pub code-leads : (M : Mem) (p : Pointer) → Retabled R M (code M.table p).1
   code-leads M p =

@@ -6,12 +6,12 @@ use Rattle.pv_object.specs.declared.values.Stop.{Stop}
 use Rattle.pv_object.specs.Memory.{Mem, with_table}
 use Rattle.pv_object.specs.Operations.{to_int}
 use Rattle.pv_libc.specs.declared.values.Arg.{Arg}
-use Rattle.pv_libc.specs.Steps.{Now, Did, done, next, next_by}
+use Rattle.pv_libc.specs.Steps.{Now, Did, answer_now, next, next_by}
 use Rattle.pv_libc.specs.Formats.{piece_at, number_piece}
 use Rattle.pv_libc.specs.FormatParts.{percent_piece, given_of}
 use Rattle.pv_libc.specs.Arguments.{string_of, address_of}
 use Rattle.pv_libc.specs.Printing.{number_done, string_done, address_by, address_done, Printed, piece_done, printed_from, format_of}
-use Rattle.pv_libc.specs.Calls.{pointer, offer, printed, printf}
+use Rattle.pv_libc.specs.Calls.{pointer, offer, text_of_format, printf}
 use Rattle.pv_exec.proofs.Memory.Ways.{Ways, Steps, next-steps, about-steps, text-steps}
 
 -- 7.21.6.1p4: what holds of the place in the format that a step leads to
@@ -73,12 +73,12 @@ module _ {R : Mem → Mem → Type 0} (w : Ways R) where
   -- a conversion's text, and then the rest of the format
   taken-by : (cs : List ℕ) (S : Now) (r : Result (List ℕ) Stop) (d : Did (List ℕ)) (at : List ℕ → Printed) → Steps w S d
       → ((t : List ℕ) (T : Now) → Along w (List ℕ) T (printed_from cs (at t) T))
-      → Steps w S (next (next_by r d (λ t T. done (at t) T)) (λ at T. printed_from cs at T))
+      → Steps w S (next (next_by r d (λ t T. answer_now (at t) T)) (λ at T. printed_from cs at T))
   taken-by cs S (Ok t) d at h g = w.trans h (g t d.after).by
   taken-by cs S (Err y) d at h g = h
 
   taken : (cs : List ℕ) (S : Now) (d : Did (List ℕ)) (at : List ℕ → Printed) → Along w (List ℕ) S d → ((t : List ℕ) (T : Now) → Along w (List ℕ) T (printed_from cs (at t) T))
-      → Along w (List ℕ) S (next (next d (λ t T. done (at t) T)) (λ at T. printed_from cs at T))
+      → Along w (List ℕ) S (next (next d (λ t T. answer_now (at t) T)) (λ at T. printed_from cs at T))
   taken cs S d at h g = record { by = taken-by cs S d.answer d at h.by g }
 
   number-goes : (S : Now) (cs : List ℕ) → Prints cs (to_text S).answer → (long : Bool) (c : ℕ) → Goes cs (piece_done (number_piece long c))
@@ -108,4 +108,4 @@ module _ {R : Mem → Mem → Type 0} (w : Ways R) where
 
   pub printf-steps : (args : List Arg) (S : Now) → Steps w S (printf args S)
   printf-steps args S =
-      next-steps w S (printed args S) _ ((prints S (format_of S.memory (pointer args 0).prov)).0 (map (offer S.memory) (drop 1 args)) [] S).by (λ text T. w.itself)
+      next-steps w S (text_of_format args S) _ ((prints S (format_of S.memory (pointer args 0).prov)).0 (map (offer S.memory) (drop 1 args)) [] S).by (λ text T. w.itself)

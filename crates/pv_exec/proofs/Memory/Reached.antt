@@ -16,15 +16,15 @@ use Rattle.pv_inst.specs.Table.{Table, instance_at}
 use Rattle.pv_inst.specs.Answers.{IsLive}
 use Rattle.pv_inst.specs.Infos.{base_of}
 use Rattle.pv_inst.specs.Placing.{Request, place}
-use Rattle.pv_inst.specs.Use.{use_answer, settled, survives, is_heap}
+use Rattle.pv_inst.specs.Use.{use_answer, after_use, survives, is_heap}
 use Rattle.pv_inst.specs.SameParts.{made_passes}
 use Rattle.pv_inst.proofs.Fitting.{and_left, and_right}
 use Rattle.pv_object.specs.declared.values.Asker.{Asker}
 use Rattle.pv_object.specs.declared.values.Pointer.{Pointer}
 use Rattle.pv_object.specs.declared.values.Reach.{Reach}
 use Rattle.pv_object.specs.declared.values.Stop.{Stop}
-use Rattle.pv_object.specs.Access.{reach, reach_after, checked, chosen, clause_of, is_null}
-use Rattle.pv_object.specs.Creating.{created, made}
+use Rattle.pv_object.specs.Access.{reach, reach_after, access_check, first_survivor, clause_of, is_null}
+use Rattle.pv_object.specs.Creating.{creation, with_new_bytes}
 use Rattle.pv_object.specs.Later.{IsLater}
 use Rattle.pv_object.specs.Memory.{Mem}
 use Rattle.pv_object.specs.Reaching.{IsReach, IsReachIn}
@@ -81,14 +81,14 @@ in-live-if U n (Ok r) h = reach-in-live U r n h
 in-live-if U n (Err y) h = tt
 
 checked-reaches : (U : Table) (o : Option ℕ) (c : Clause) (p : Pointer) (n align : ℕ) (write : Bool) (tried : Tried) → ((i : ℕ) → o ≡ Some i → survives true U.instances (Some i) (Range p.address n) ≡ true)
-    → Reaches n (checked U o c p n align write tried, U)
+    → Reaches n (access_check U o c p n align write tried, U)
 checked-reaches U None c p n align write tried h = tt
-checked-reaches U (Some i) c p n align write tried h = in-live-if U n (checked U (Some i) c p n align write tried) (reach_checked U i c p n align write tried (h i refl))
+checked-reaches U (Some i) c p n align write tried h = in-live-if U n (access_check U (Some i) c p n align write tried) (reach_checked U i c p n align write tried (h i refl))
 
 after-reaches : (T : Table) (p : Pointer) (n align : ℕ) (write : Bool) (c : Clause) (r : Result Tried Miss) → use_answer T p.prov (Range p.address n) ≡ r → Reaches n (reach_after T p n align write c r)
 after-reaches T p n align write c (Err m) e = tt
 after-reaches T p n align write c (Ok tried) e =
-    checked-reaches (settled T p.prov (Ok tried)) (chosen (stands T.pairs p.prov) tried) c p n align write tried
+    checked-reaches (after_use T p.prov (Ok tried)) (first_survivor (stands T.pairs p.prov) tried) c p n align write tried
     (λ i f. ap (λ (xs : List Instance). survives true xs (Some i) (Range p.address n)) (settled_instances T p.prov (Ok tried)) ∙ survivor T p.prov p.address n tried i e f)
 
 pub reach-reaches : (T : Table) (p : Pointer) (n align : ℕ) (write : Bool) (by : Asker) → Reaches n (reach T p n align write by)
@@ -100,11 +100,11 @@ keeps-if : (P : Table → Type 0) (c : Bool) (w v : Result Reach Stop × Table) 
 keeps-if P true w v h g = h
 keeps-if P false w v h g = g
 
-after-keeps : (P : Table → Type 0) (T : Table) (p : Pointer) (n align : ℕ) (write : Bool) (c : Clause) (r : Result Tried Miss) → P T → P (settled T p.prov r) → P (reach_after T p n align write c r).1
+after-keeps : (P : Table → Type 0) (T : Table) (p : Pointer) (n align : ℕ) (write : Bool) (c : Clause) (r : Result Tried Miss) → P T → P (after_use T p.prov r) → P (reach_after T p n align write c r).1
 after-keeps P T p n align write c (Err m) h g = h
 after-keeps P T p n align write c (Ok tried) h g = g
 
-reach-keeps : (P : Table → Type 0) (T : Table) (p : Pointer) (n align : ℕ) (write : Bool) (by : Asker) → P T → ((r : Result Tried Miss) → P (settled T p.prov r)) → P (reach T p n align write by).1
+reach-keeps : (P : Table → Type 0) (T : Table) (p : Pointer) (n align : ℕ) (write : Bool) (by : Asker) → P T → ((r : Result Tried Miss) → P (after_use T p.prov r)) → P (reach T p n align write by).1
 reach-keeps P T p n align write by h g =
     let r = use_answer T p.prov (Range p.address n) in
     keeps-if P (is_null p) _ _ h (keeps-if P (is_empty p.prov) _ _ h (after-keeps P T p n align write (clause_of by) r h (g r)))
@@ -123,7 +123,7 @@ block-passes : (zap : Bool) (o : Option Instance) (a : ℕ) → made_passes zap 
 block-passes zap None a h = absurd (false≢true h)
 block-passes zap (Some x) a h = (and_left x.live _ h, and_left (is_heap x.kind) (eqb x.base a) (and_right x.live _ h))
 
-pub chosen-block : (T : Table) (p : Prov) (a : ℕ) (tried : Tried) (i : ℕ) → use_answer T p (Block a) ≡ Ok tried → chosen (stands T.pairs p) tried ≡ Some i → IsAllocation T i
+pub chosen-block : (T : Table) (p : Prov) (a : ℕ) (tried : Tried) (i : ℕ) → use_answer T p (Block a) ≡ Ok tried → first_survivor (stands T.pairs p) tried ≡ Some i → IsAllocation T i
 chosen-block T Empty a tried i e h = absurd (no-error _ tried e)
 chosen-block T (Inst j) a tried i e h =
     let s = stands T.pairs (Inst j) in
@@ -149,7 +149,7 @@ allocation-placed T r i h = by (instance_at T.instances i) refl h
 
 -- 6.2.4p2: what was made lives, with as many bytes as were asked for
 made-in-live : (M : Mem) (r : Request) (w : Result ℕ CreateError × Table) → place M.table r ≡ w
-    → IfOk (made M w).0 (λ i. AreInLive (made M w).1.table (base_of (instance_at (made M w).1.table.instances i)) r.size)
+    → IfOk (with_new_bytes M w).0 (λ i. AreInLive (with_new_bytes M w).1.table (base_of (instance_at (with_new_bytes M w).1.table.instances i)) r.size)
 made-in-live M r (Ok i, U) e =
     let answer : Ok i ≡ (place M.table r).0 = ap (λ (x : Result ℕ CreateError × Table). x.0) (sym e) in
     let table : U ≡ (place M.table r).1 = ap (λ (x : Result ℕ CreateError × Table). x.1) (sym e) in
@@ -159,5 +159,5 @@ made-in-live M r (Ok i, U) e =
     record { number = i; inst = n.inst; is = n.is; live = n.live; from = omega (arith, base); upto = omega (arith, base, size) }
 made-in-live M r (Err y, U) e = tt
 
-pub created-in-live : (M : Mem) (r : Request) → IfOk (created M r).0 (λ i. AreInLive (created M r).1.table (base_of (instance_at (created M r).1.table.instances i)) r.size)
+pub created-in-live : (M : Mem) (r : Request) → IfOk (creation M r).0 (λ i. AreInLive (creation M r).1.table (base_of (instance_at (creation M r).1.table.instances i)) r.size)
 created-in-live M r = made-in-live M r (place M.table r) refl

@@ -8,7 +8,7 @@ use Rattle.std.proofs.lemmas.List.Quantifiers.{all_pairs_push}
 use Rattle.std.proofs.lemmas.List.Sums.{sum_by-set, sum_by_push}
 use Rattle.pv_prov.specs.declared.pairs.Twin.{Twin}
 use Rattle.pv_prov.specs.Twins.{KeepsOne}
-use Rattle.pv_prov.specs.Names.{twin_at, kept, added}
+use Rattle.pv_prov.specs.Names.{twin_at, after_narrowing, with_twin}
 use Rattle.pv_prov.specs.NameParts.{keeping}
 use Rattle.pv_prov.specs.Made.{Stands_low, Stands_high}
 use Rattle.pv_inst.specs.declared.values.Instance.{Instance}
@@ -173,7 +173,7 @@ added-slice [] t k = tt
 added-slice (u ∷ ts) t zero = settles-itself (Some u)
 added-slice (u ∷ ts) t (suc k) = added-slice ts t k
 
-pub added-settle : (ts : List Twin) (low high : ℕ) → AllSettle ts (added ts low high)
+pub added-settle : (ts : List Twin) (low high : ℕ) → AllSettle ts (with_twin ts low high)
 added-settle ts low high k = added-slice ts (record { low = low; high = high; keeps_low = true; keeps_high = true }) (k - 1)
 
 -- a pair that keeps one of its two at least, and none that it dropped
@@ -206,7 +206,7 @@ keeping-settle (Some t) ts k low high e l h =
     let u : Twin = record { low = t.low; high = t.high; keeps_low = low; keeps_high = high } in
     λ j. keeping-slice ts (k - 1) (j - 1) t u e (record { low = refl; high = refl; keeps_low = l; keeps_high = h }) (same_or_not (k - 1) (j - 1))
 
-pub kept-led : {F : Type 0} (xs : List Instance) (ts : List Twin) (k : ℕ) (low high : Bool) → MayKeep ts k low high → Led F xs ts xs (kept ts k low high)
+pub kept-led : {F : Type 0} (xs : List Instance) (ts : List Twin) (k : ℕ) (low high : Bool) → MayKeep ts k low high → Led F xs ts xs (after_narrowing ts k low high)
 kept-led {F} xs ts k low high m =
-    pairs-led xs ts (kept ts k low high) (keeping-settle (twin_at ts k) ts k low high refl m.1 m.2)
+    pairs-led xs ts (after_narrowing ts k low high) (keeping-settle (twin_at ts k) ts k low high refl m.1 m.2)
     (λ s. met_kept xs ts k low high s.met) (λ s. keeping-one (twin_at ts k) ts k low high (or-true low high m.0) s.one)

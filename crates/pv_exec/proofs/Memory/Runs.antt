@@ -12,13 +12,13 @@ use Rattle.pv_world.specs.Worlds.{Worth, World}
 use Rattle.pv_world.specs.Telling.{Told}
 use Rattle.pv_world.specs.Doing.{Done, Answers, Fails, Breaks}
 use Rattle.pv_eval.specs.States.{Setting, State, Turns, Res, Gives, Stops, then_do, end_of, spend}
-use Rattle.pv_eval.specs.Acting.{noted, pair_count, sided, by_side, answered, acted}
+use Rattle.pv_eval.specs.Acting.{after_telling, pair_count, with_side, by_side, answer_with_sides, after_doing}
 use Rattle.pv_eval.specs.ActingParts.{one_kept, keeps_both}
 use Rattle.pv_eval.specs.Constants.{constant_worth}
 use Rattle.pv_eval.specs.Operations.{Op, Puts, does}
 use Rattle.pv_eval.proofs.Closed.{IsAsked, beside_setting}
 use Rattle.pv_exec.specs.Calls.{below}
-use Rattle.pv_exec.specs.Run.{setting_of, first, run_of}
+use Rattle.pv_exec.specs.Run.{setting_of, initial_state, run_of}
 use Rattle.pv_exec.specs.Laws.{run_at}
 use Rattle.pv_exec.proofs.Executed.{WaysIn, Alike, even-closed, run-closed}
 use Rattle.pv_exec.specs.Laying.{table_at, HasNoEmptyTag}
@@ -38,7 +38,7 @@ module _ {F : Type 0} {R : Mem → Mem → Type 0} (changes : Changes F R) where
   kept-if true w k high e = changes.settles w.memory k high e
   kept-if false w k high e = changes.itself
 
-  sided-comes : (w : World) (k : ℕ) (high : Bool) → R w.memory (sided w k high).memory
+  sided-comes : (w : World) (k : ℕ) (high : Bool) → R w.memory (with_side w k high).memory
   sided-comes w k high = kept-if (keeps_both (twin_at w.memory.table.pairs k)) w k high refl
 
   side-comes : (o : Option Bool) (v : Worth) (line : ℕ) (w : World) (t : Told) (s : State) → R s.world.memory w.memory → Comes R s (end_of (by_side o v line w t s))
@@ -49,13 +49,13 @@ module _ {F : Type 0} {R : Mem → Mem → Type 0} (changes : Changes F R) where
   either-comes true s r x h g = h
   either-comes false s r x h g = g
 
-  answered-comes : (o : Option (List Bool)) (v : Worth) (line : ℕ) (w : World) (t : Told) (s : State) → R s.world.memory w.memory → Comes R s (end_of (answered o v line w t s))
+  answered-comes : (o : Option (List Bool)) (v : Worth) (line : ℕ) (w : World) (t : Told) (s : State) → R s.world.memory w.memory → Comes R s (end_of (answer_with_sides o v line w t s))
   answered-comes None v line w t s h = h
   answered-comes (Some sides) v line w t s h =
       let o = slice_get sides (pair_count s.world) in
-      either-comes (nat_lt (pair_count s.world) (pair_count w)) s (by_side o v line w t s) (Gives v (noted w t s)) (side-comes o v line w t s h) h
+      either-comes (nat_lt (pair_count s.world) (pair_count w)) s (by_side o v line w t s) (Gives v (after_telling w t s)) (side-comes o v line w t s h) h
 
-  acted-comes : (b : Setting) (line : ℕ) (d : Done) (s : State) → Onward R s.world d → Comes R s (end_of (acted b line d s))
+  acted-comes : (b : Setting) (line : ℕ) (d : Done) (s : State) → Onward R s.world d → Comes R s (end_of (after_doing b line d s))
   acted-comes b line (Answers v w t) s h = answered-comes b.sides v line w t s h.leads
   acted-comes b line (Fails y p w t) s h = h.leads
   acted-comes b line (Breaks y p w t) s h = h.leads
@@ -70,7 +70,7 @@ module _ {F : Type 0} {R : Mem → Mem → Type 0} (changes : Changes F R) where
   seq-comes s (Stops y t) f h g = h
 
 module _ (b : Setting) {R : Mem → Mem → Type 0} (changes : Changes (Filled b) R) where
-  act-comes : (line : ℕ) (o : Op) → IsAsked b o → (s : State) → Comes R s (end_of (acted b line (does b o s.world) s))
+  act-comes : (line : ℕ) (o : Op) → IsAsked b o → (s : State) → Comes R s (end_of (after_doing b line (does b o s.world) s))
   act-comes line o is s = acted-comes changes b line (does b o s.world) s (does-on b changes o is s.world)
 
   -- each way of making pieces
@@ -91,11 +91,11 @@ module _ (b : Setting) {R : Mem → Mem → Type 0} (changes : Changes (Filled b
   all-come k = even-closed b b.bound b.sides coming.ways (λ A s. changes.itself) k
 
 -- the whole run
-pub run-comes : (u : Stored) (sides : Option (List Bool)) (zap : Bool) (script : List ScriptLine) (n : ℕ) {R : Mem → Mem → Type 0} (changes : Changes (HasNoEmptyTag u) R) → Comes R (first script zap) (end_of (run_at u sides zap script n))
+pub run-comes : (u : Stored) (sides : Option (List Bool)) (zap : Bool) (script : List ScriptLine) (n : ℕ) {R : Mem → Mem → Type 0} (changes : Changes (HasNoEmptyTag u) R) → Comes R (initial_state script zap) (end_of (run_at u sides zap script n))
 unfolding run_of
 run-comes u sides zap script n changes =
     let b = setting_of u n sides zap in
-    run-closed b n sides (coming b changes) n (all-come b changes n) (first script zap)
+    run-closed b n sides (coming b changes) n (all-come b changes n) (initial_state script zap)
 
 -- of instances and pairs
 abbrev pub Passes : Type 0 → State → State → Type 0
@@ -108,7 +108,7 @@ module _ {F : Type 0} where
   pub seq-passes : {A B : Type 0} (s : State) (r : Res A) (f : A → State → Res B) → Passes F s (end_of r) → ((a : A) (s : State) → Passes F s (end_of (f a s))) → Passes F s (end_of (then_do r f))
   seq-passes s r f h g = seq-comes (leading F) s r f h g
 
-pub act-passes : (b : Setting) (line : ℕ) (o : Op) → IsAsked b o → (s : State) → Passes (Filled b) s (end_of (acted b line (does b o s.world) s))
+pub act-passes : (b : Setting) (line : ℕ) (o : Op) → IsAsked b o → (s : State) → Passes (Filled b) s (end_of (after_doing b line (does b o s.world) s))
 act-passes b line o is s = act-comes b (leading (Filled b)) line o is s
 
 pub passing : (b : Setting) → WaysIn b (beside_setting b b.bound b.sides) (λ k j A m m'. (s : State) → Passes (Filled b) s (end_of (m s)))
@@ -117,11 +117,11 @@ passing b = coming b (leading (Filled b))
 pub alike : (b : Setting) (k : ℕ) → Alike b b.bound b.sides (passing b).ways k (below b k) (below (beside_setting b b.bound b.sides) k)
 alike b k = even-closed b b.bound b.sides (passing b).ways (λ A s. led-itself) k
 
-run-passes : (u : Stored) (sides : Option (List Bool)) (zap : Bool) (script : List ScriptLine) (n : ℕ) → Passes (HasNoEmptyTag u) (first script zap) (end_of (run_at u sides zap script n))
+run-passes : (u : Stored) (sides : Option (List Bool)) (zap : Bool) (script : List ScriptLine) (n : ℕ) → Passes (HasNoEmptyTag u) (initial_state script zap) (end_of (run_at u sides zap script n))
 run-passes u sides zap script n = run-comes u sides zap script n (leading (HasNoEmptyTag u))
 
 -- nothing is made yet
-pub first-sound : (F : Type 0) (script : List ScriptLine) (zap : Bool) → Sound F (table_at (first script zap)).instances (table_at (first script zap)).pairs
+pub first-sound : (F : Type 0) (script : List ScriptLine) (zap : Bool) → Sound F (table_at (initial_state script zap)).instances (table_at (initial_state script zap)).pairs
 first-sound F script zap = record {
   placed = All-nil (Lies F);
   apart = λ i j d l h. absurd (omega (arith, h));

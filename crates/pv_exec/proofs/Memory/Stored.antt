@@ -12,7 +12,7 @@ use Rattle.pv_inst.specs.declared.values.Instance.{Instance}
 use Rattle.pv_inst.specs.Infos.{base_of}
 use Rattle.pv_inst.specs.Table.{Table, instance_at, IsMadeIn}
 use Rattle.pv_shadow.specs.declared.byte.Byte.{Byte}
-use Rattle.pv_shadow.specs.Whole.{plain, pointed, little_endian}
+use Rattle.pv_shadow.specs.Whole.{number_bytes, pointer_bytes, little_endian}
 use Rattle.pv_object.specs.declared.values.Scalar.{Scalar}
 use Rattle.pv_object.specs.declared.values.Scalar.TheVariants as scalar
 use Rattle.pv_object.specs.declared.values.Value.{Value}
@@ -49,11 +49,11 @@ pub made-still : (T U : Table) (bytes : List Byte) → IsLater T U → AreMade T
 made-still T U bytes l h = λ k d m. made_later T U _ l (h k d m)
 
 -- as many bytes as values
-pub plain-length : (mark : Option ℕ) (j : ℕ) (vs : List ℕ) → length (plain mark j vs) ≡ length vs
+pub plain-length : (mark : Option ℕ) (j : ℕ) (vs : List ℕ) → length (number_bytes mark j vs) ≡ length vs
 plain-length mark j [] = refl
 plain-length mark j (v ∷ vs) = ap suc (plain-length mark (j + 1) vs)
 
-pointed-length : (mark : Option ℕ) (p : Prov) (j : ℕ) (vs : List ℕ) → length (pointed mark p j vs) ≡ length vs
+pointed-length : (mark : Option ℕ) (p : Prov) (j : ℕ) (vs : List ℕ) → length (pointer_bytes mark p j vs) ≡ length vs
 pointed-length mark p j [] = refl
 pointed-length mark p j (v ∷ vs) = ap suc (pointed-length mark p (j + 1) vs)
 
@@ -61,7 +61,7 @@ endian-length : (k n : ℕ) → length (little_endian k n) ≡ k
 endian-length zero n = refl
 endian-length (suc k) n = ap suc (endian-length k (n / 256))
 
-pub plain-made : (T : Table) (mark : Option ℕ) (j : ℕ) (vs : List ℕ) → AreMade T (plain mark j vs)
+pub plain-made : (T : Table) (mark : Option ℕ) (j : ℕ) (vs : List ℕ) → AreMade T (number_bytes mark j vs)
 plain-made T mark j [] = All-nil (λ (x : Byte). IsMadeIn T x.prov)
 plain-made T mark j (v ∷ vs) = All-cons (λ (x : Byte). IsMadeIn T x.prov) _ _ tt (plain-made T mark (j + 1) vs)
 

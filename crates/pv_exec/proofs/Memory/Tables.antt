@@ -9,22 +9,22 @@ use Rattle.pv_prov.specs.declared.names.Prov.{Prov}
 use Rattle.pv_prov.specs.declared.names.Prov.TheVariants.{Empty, Inst, Pair}
 use Rattle.pv_prov.specs.declared.names.Stands.{Stands}
 use Rattle.pv_prov.specs.declared.pairs.Twin.{Twin}
-use Rattle.pv_prov.specs.Names.{stands, stands_of, twin_at, kept}
+use Rattle.pv_prov.specs.Names.{stands, stands_of, twin_at, after_narrowing}
 use Rattle.pv_inst.specs.declared.values.Instance.{Instance}
 use Rattle.pv_inst.specs.declared.values.Test.{Test}
 use Rattle.pv_inst.specs.declared.values.Tried.{Tried}
 use Rattle.pv_inst.specs.declared.values.Miss.{Miss}
 use Rattle.pv_inst.specs.Table.{Table, instance_at, with_instance, live_bytes, count_of, IsMadeIn}
-use Rattle.pv_inst.specs.Use.{survives, any_survives, judged, if_two, use_answer, settled}
+use Rattle.pv_inst.specs.Use.{survives, any_survives, test_answer, if_two, use_answer, after_use}
 use Rattle.pv_inst.specs.TwoPointers.{after_same, same_state, same_miss, same_left, same_right, after_left}
 use Rattle.pv_inst.specs.Answers.{CanKeep}
 use Rattle.pv_inst.specs.Exposure.{expose, expose_one, exposing}
-use Rattle.pv_inst.specs.ExposureParts.{shown}
+use Rattle.pv_inst.specs.ExposureParts.{exposure_from}
 use Rattle.pv_inst.specs.declared.values.CreateError.{CreateError}
 use Rattle.pv_inst.specs.declared.values.CreateError.TheVariants.{Range, Misaligned}
 use Rattle.pv_inst.specs.Placing.{Request, place, place_said, place_at, unless_overlap, first_overlap}
-use Rattle.pv_inst.specs.PlacingParts.{rounded, fresh}
-use Rattle.pv_inst.specs.Ending.{ended}
+use Rattle.pv_inst.specs.PlacingParts.{multiple_of_16, fresh}
+use Rattle.pv_inst.specs.Ending.{after_end}
 use Rattle.pv_inst.specs.EndingParts.{ending, over}
 use Rattle.pv_inst.proofs.Rows.{row_found}
 use Rattle.pv_inst.proofs.Together.{Common, common_found, left_can, right_can}
@@ -35,7 +35,7 @@ use Rattle.pv_exec.proofs.Memory.Findings.{name-leads}
 use Rattle.pv_exec.proofs.Memory.Rows.{Leads, led-itself, led-trans, row-led, push-led, MayKeep, kept-led}
 
 -- a use: a pair keeps what survives, one of its two at least, and only what it kept can survive
-judged-is : (zap : Bool) (xs : List Instance) (s : Stands) (pair : Option ℕ) (t : Test) (tried : Tried) → judged zap xs s pair t ≡ Ok tried → (any_survives zap xs s t ≡ true) × (tried ≡ record { pair = pair; low = survives zap xs s.low t; high = survives zap xs s.high t })
+judged-is : (zap : Bool) (xs : List Instance) (s : Stands) (pair : Option ℕ) (t : Test) (tried : Tried) → test_answer zap xs s pair t ≡ Ok tried → (any_survives zap xs s t ≡ true) × (tried ≡ record { pair = pair; low = survives zap xs s.low t; high = survives zap xs s.high t })
 judged-is zap xs s pair t tried h = by (any_survives zap xs s t) _ _ refl h
   where
     by : (b : Bool) (x : Tried) (m : Miss) → any_survives zap xs s t ≡ b → cond b (Ok x) (Err m) ≡ Ok tried → (any_survives zap xs s t ≡ true) × (tried ≡ x)
@@ -80,17 +80,17 @@ free-bounds base size e = grind (arith, nat_tests)
 
 module _ {F : Type 0} where
   -- a use
-  settled-by : (T : Table) (k : ℕ) (t : Test) (r : Result Tried Miss) → use_answer T (Pair k) t ≡ r → Leads F T (settled T (Pair k) r)
+  settled-by : (T : Table) (k : ℕ) (t : Test) (r : Result Tried Miss) → use_answer T (Pair k) t ≡ r → Leads F T (after_use T (Pair k) r)
   settled-by T k t (Ok tried) e = kept-led T.instances T.pairs k tried.low tried.high (use-keeps T k t tried e)
   settled-by T k t (Err m) e = led-itself
 
-  pub use-leads : (T : Table) (p : Prov) (t : Test) → Leads F T (settled T p (use_answer T p t))
+  pub use-leads : (T : Table) (p : Prov) (t : Test) → Leads F T (after_use T p (use_answer T p t))
   use-leads T Empty t = led-itself
   use-leads T (Inst i) t = led-itself
   use-leads T (Pair k) t = settled-by T k t (use_answer T (Pair k) t) refl
 
   -- two operands, whose names were made: each keeps what both have
-  can-leads : (T : Table) (p : Prov) (tried : Tried) → CanKeep T p tried → Leads F T (settled T p (Ok tried))
+  can-leads : (T : Table) (p : Prov) (tried : Tried) → CanKeep T p tried → Leads F T (after_use T p (Ok tried))
   can-leads T Empty tried h = led-itself
   can-leads T (Inst i) tried h = led-itself
   can-leads T (Pair k) tried h = kept-led T.instances T.pairs k tried.low tried.high h
@@ -105,7 +105,7 @@ module _ {F : Type 0} where
   same-leads T p q a b = same-by T p q (same_miss T p q) refl a b
 
   -- in a settled run
-  pub settles-leads : (T : Table) (k : ℕ) (high : Bool) → keeps_both (twin_at T.pairs k) ≡ true → Leads F T (record T { pairs = kept T.pairs k (not high) high })
+  pub settles-leads : (T : Table) (k : ℕ) (high : Bool) → keeps_both (twin_at T.pairs k) ≡ true → Leads F T (record T { pairs = after_narrowing T.pairs k (not high) high })
   settles-leads T k high e =
       let both = both-kept (twin_at T.pairs k) e in
       kept-led T.instances T.pairs k (not high) high (one-side high, λ l. both.0, λ l. both.1)
@@ -118,8 +118,8 @@ module _ {F : Type 0} where
   exposing-leads : (T : Table) (i : ℕ) (o : Option Instance) → instance_at T.instances i ≡ o → Leads F T (exposing T i o)
   exposing-leads T i None e = led-itself
   exposing-leads T i (Some x) e =
-      led-if (x.live && not x.exposed) T (record T { instances = with_instance T.instances i (shown x); pending = T.pending ++ i ∷ [] })
-      (row-led T.instances T.pairs i x (shown x) (row_found T.instances i x (sym e)) (record { name = refl; k = refl; base = refl; size = refl; kind = refl; lived = λ e. e; exposed = λ e. refl }))
+      led-if (x.live && not x.exposed) T (record T { instances = with_instance T.instances i (exposure_from x); pending = T.pending ++ i ∷ [] })
+      (row-led T.instances T.pairs i x (exposure_from x) (row_found T.instances i x (sym e)) (record { name = refl; k = refl; base = refl; size = refl; kind = refl; lived = λ e. e; exposed = λ e. refl }))
 
   one-leads : (T : Table) (o : Option ℕ) → Leads F T (expose_one T o)
   one-leads T None = led-itself
@@ -135,7 +135,7 @@ module _ {F : Type 0} where
   ending-leads T i None e = led-itself
   ending-leads T i (Some x) e = row-led T.instances T.pairs i x (over x) (row_found T.instances i x (sym e)) (record { name = refl; k = refl; base = refl; size = refl; kind = refl; lived = λ e. absurd (false≢true e); exposed = λ e. e })
 
-  pub ended-leads : (T : Table) (i : ℕ) → Leads F T (ended T i)
+  pub ended-leads : (T : Table) (i : ℕ) → Leads F T (after_end T i)
   ended-leads T i = ending-leads T i (instance_at T.instances i) refl
 
   -- one more instance
@@ -156,7 +156,7 @@ module _ {F : Type 0} where
       by false true e = overlap-leads T r k base default (first_overlap T.instances base r.size) refl e few some
 
   said-leads : (T : Table) (r : Request) (k : ℕ) (o : Option Place) → live_bytes T.instances + r.size ≤ 2 ^ 24 → (F → 1 ≤ r.size) → Leads F T (place_said o T r k).1
-  said-leads T r k None few some = at-leads T r k (rounded T.cursor) true few some
+  said-leads T r k None few some = at-leads T r k (multiple_of_16 T.cursor) true few some
   said-leads T r k (Some (At base)) few some = at-leads T r k base false few some
   said-leads T r k (Some Null) few some = led-itself
 

@@ -5,19 +5,19 @@ use Rattle.pv_num.specs.declared.kinds.IntKind.{IntKind}
 use Rattle.pv_num.specs.declared.kinds.IntKind.TheVariants.{UChar}
 use Rattle.pv_prov.specs.declared.names.Prov.{Prov}
 use Rattle.pv_prov.specs.declared.names.Prov.TheVariants.{Empty}
-use Rattle.pv_prov.specs.Names.{twin_at, kept}
+use Rattle.pv_prov.specs.Names.{twin_at, after_narrowing}
 use Rattle.pv_inst.specs.declared.values.Test.{Test}
 use Rattle.pv_inst.specs.Answers.{IsLive}
 use Rattle.pv_inst.specs.declared.values.CreateError.{CreateError}
-use Rattle.pv_inst.specs.Ending.{ended}
+use Rattle.pv_inst.specs.Ending.{after_end}
 use Rattle.pv_inst.specs.Table.{Table, IsMadeIn}
-use Rattle.pv_inst.specs.Use.{use_answer, settled, is_function}
+use Rattle.pv_inst.specs.Use.{use_answer, after_use, is_function}
 use Rattle.pv_inst.specs.Placing.{Request, place}
 use Rattle.pv_inst.specs.TwoPointers.{after_same}
 use Rattle.pv_inst.specs.Finding.{after_name}
 use Rattle.pv_inst.specs.Exposure.{expose}
 use Rattle.pv_shadow.specs.declared.byte.Byte.{Byte}
-use Rattle.pv_shadow.specs.Bytes.{read}
+use Rattle.pv_shadow.specs.Bytes.{bytes_from}
 use Rattle.pv_object.specs.declared.values.Pointer.{Pointer}
 use Rattle.pv_object.specs.declared.values.Scalar.{Scalar}
 use Rattle.pv_object.specs.declared.values.Scalar.TheVariants as scalar
@@ -25,12 +25,12 @@ use Rattle.pv_object.specs.declared.values.Asker.{Asker}
 use Rattle.pv_object.specs.declared.values.Stop.{Stop}
 use Rattle.pv_object.specs.Memory.{Mem, with_table}
 use Rattle.pv_object.specs.Access.{reach}
-use Rattle.pv_object.specs.Creating.{created, made, without}
+use Rattle.pv_object.specs.Creating.{creation, with_new_bytes, without}
 use Rattle.pv_object.specs.Loading.{load, value_of}
 use Rattle.pv_object.specs.Operations.{to_int}
-use Rattle.pv_object.specs.Copying.{with_bytes, copied}
+use Rattle.pv_object.specs.Copying.{with_bytes, after_copy}
 use Rattle.pv_libc.specs.declared.values.Note.{Note}
-use Rattle.pv_libc.specs.Steps.{Now, Did, next, next_by, about, about_by, reached, reached_by, further}
+use Rattle.pv_libc.specs.Steps.{Now, Did, next, next_by, about, about_by, reach_for, reached_by, bytes_further}
 use Rattle.pv_libc.specs.Characters.{character_in, character_loaded, character_at, characters_from, string_from, most, string_at}
 use Rattle.pv_typed.specs.Known.{Each}
 use Rattle.pv_eval.specs.ActingParts.{keeps_both}
@@ -43,37 +43,37 @@ pub record Changes (F : Type 0) (R : Mem → Mem → Type 0) : Type 0 where
   pub trans : {M N O : Mem} → R M N → R N O → R M O
   -- exposures were told
   pub told : (M : Mem) → R M (with_table M (record M.table { pending = [] }))
-  pub uses : (M : Mem) (p : Prov) (t : Test) → R M (with_table M (settled M.table p (use_answer M.table p t)))
+  pub uses : (M : Mem) (p : Prov) (t : Test) → R M (with_table M (after_use M.table p (use_answer M.table p t)))
   pub meets : (M : Mem) (p q : Prov) → IsMadeIn M.table p → IsMadeIn M.table q → R M (with_table M (after_same M.table p q))
   pub names : (M : Mem) (a : ℕ) → R M (with_table M (after_name M.table a))
   pub exposes : (M : Mem) (p : Prov) → R M (with_table M (expose M.table p))
   -- in a settled run a pair keeps one side from its making on
-  pub settles : (M : Mem) (k : ℕ) (high : Bool) → keeps_both (twin_at M.table.pairs k) ≡ true → R M (with_table M (record M.table { pairs = kept M.table.pairs k (not high) high }))
-  pub makes : (M : Mem) (r : Request) → (F → 1 ≤ r.size) → R M (created M r).1
+  pub settles : (M : Mem) (k : ℕ) (high : Bool) → keeps_both (twin_at M.table.pairs k) ≡ true → R M (with_table M (record M.table { pairs = after_narrowing M.table.pairs k (not high) high }))
+  pub makes : (M : Mem) (r : Request) → (F → 1 ≤ r.size) → R M (creation M r).1
   -- only what lives ends
   pub ends : (M : Mem) (i : ℕ) → IsLive M.table.instances i → R M (without M i)
   -- what is stored lies in a live instance, and its names were made
   pub stores : (M : Mem) (a : ℕ) (bytes : List Byte) → AreInLive M.table a (length bytes) → All (λ (x : Byte). IsMadeIn M.table x.prov) bytes → R M (with_bytes M a bytes)
-  pub copies : (M : Mem) (to from n : ℕ) → AreInLive M.table to n → AreInLive M.table from n → R M (copied M to from n)
+  pub copies : (M : Mem) (to from n : ℕ) → AreInLive M.table to n → AreInLive M.table from n → R M (after_copy M to from n)
 
 -- of a relation of tables alone, which asks nothing of bytes
 pub record TableChanges (F : Type 0) (Q : Table → Table → Type 0) : Type 0 where
   pub itself : {T : Table} → Q T T
   pub trans : {T U V : Table} → Q T U → Q U V → Q T V
   pub told : (T : Table) → Q T (record T { pending = [] })
-  pub uses : (T : Table) (p : Prov) (t : Test) → Q T (settled T p (use_answer T p t))
+  pub uses : (T : Table) (p : Prov) (t : Test) → Q T (after_use T p (use_answer T p t))
   pub meets : (T : Table) (p q : Prov) → IsMadeIn T p → IsMadeIn T q → Q T (after_same T p q)
   pub names : (T : Table) (a : ℕ) → Q T (after_name T a)
   pub exposes : (T : Table) (p : Prov) → Q T (expose T p)
-  pub settles : (T : Table) (k : ℕ) (high : Bool) → keeps_both (twin_at T.pairs k) ≡ true → Q T (record T { pairs = kept T.pairs k (not high) high })
+  pub settles : (T : Table) (k : ℕ) (high : Bool) → keeps_both (twin_at T.pairs k) ≡ true → Q T (record T { pairs = after_narrowing T.pairs k (not high) high })
   pub places : (T : Table) (r : Request) → (F → 1 ≤ r.size) → Q T (place T r).1
-  pub ends : (T : Table) (i : ℕ) → Q T (ended T i)
+  pub ends : (T : Table) (i : ℕ) → Q T (after_end T i)
 
 abbrev pub OfTables : (Table → Table → Type 0) → Mem → Mem → Type 0
 OfTables Q M N = Q M.table N.table
 
 module _ {F : Type 0} (Q : Table → Table → Type 0) (changes : TableChanges F Q) where
-  made-of : (M : Mem) (w : Result ℕ CreateError × Table) → Q M.table w.1 → OfTables Q M (made M w).1
+  made-of : (M : Mem) (w : Result ℕ CreateError × Table) → Q M.table w.1 → OfTables Q M (with_new_bytes M w).1
   made-of M (Ok i, U) h = h
   made-of M (Err e, U) h = h
 
@@ -122,17 +122,17 @@ pub record Ways (R : Mem → Mem → Type 0) : Type 0 where
   pub itself : {M : Mem} → R M M
   pub trans : {M N O : Mem} → R M N → R N O → R M O
   pub told : (M : Mem) → R M (with_table M (record M.table { pending = [] }))
-  pub uses : (M : Mem) (p : Prov) (t : Test) → R M (with_table M (settled M.table p (use_answer M.table p t)))
+  pub uses : (M : Mem) (p : Prov) (t : Test) → R M (with_table M (after_use M.table p (use_answer M.table p t)))
   pub reaches : (M : Mem) (p : Pointer) (n align : ℕ) (write : Bool) (by : Asker) → R M (with_table M (reach M.table p n align write by).1)
   pub loads : (M : Mem) (bytes : List Byte) (t : Scalar) → R M (with_table M (value_of M.table bytes t).1)
   pub numbers : (M : Mem) (p : Pointer) (k : IntKind) → R M (with_table M (to_int M.table p k).1)
   -- 7.22.3p1: what is made is no function
-  pub makes : (M : Mem) (r : Request) → 1 ≤ r.size → is_function r.kind ≡ false → R M (created M r).1
+  pub makes : (M : Mem) (r : Request) → 1 ≤ r.size → is_function r.kind ≡ false → R M (creation M r).1
   -- 7.22.3.3p2: only an allocation that lives ends
   pub ends : (M : Mem) (i : ℕ) → IsAllocation M.table i → R M (without M i)
   -- characters are stored, or bytes are copied whole, where a live instance has room for them
   pub stores : (M : Mem) (a : ℕ) (bytes : List Byte) → AreInLive M.table a (length bytes) → Each IsCharacter bytes → R M (with_bytes M a bytes)
-  pub copies : (M : Mem) (to from n : ℕ) → AreInLive M.table to n → AreInLive M.table from n → R M (copied M to from n)
+  pub copies : (M : Mem) (to from n : ℕ) → AreInLive M.table to n → AreInLive M.table from n → R M (after_copy M to from n)
 
 -- what is known of a step's answer
 abbrev pub When : {A : Type 0} → (A → Type 0) → Result A Stop → Type 0
@@ -170,7 +170,7 @@ module _ {R : Mem → Mem → Type 0} (w : Ways R) where
   step-if S false d e h g = g
 
   -- accesses (7.24.1p2, 7.1.4p1). A pointer with its note has a type of the library's own, which can't be named here: `_` stands for it
-  pub reached-steps : (by : Asker) (write : Bool) (g : _) (n : ℕ) (S : Now) → Steps S (reached by write g n S)
+  pub reached-steps : (by : Asker) (write : Bool) (g : _) (n : ℕ) (S : Now) → Steps S (reach_for by write g n S)
   reached-steps by write g n S =
       about-steps S g.stopped (reached_by by write g n S (reach S.memory.table g.pointer n 1 write by)) (w.reaches S.memory g.pointer n 1 write by)
 
@@ -178,10 +178,10 @@ module _ {R : Mem → Mem → Type 0} (w : Ways R) where
   in-steps : (g : _) (a : ℕ) (S : Now) → Steps S (character_in g a S)
   in-steps g a S =
       about-steps S g.stopped (character_loaded S (load S.memory a (scalar.Int UChar)))
-      (w.trans (w.loads S.memory (read S.memory.bytes a 1) (scalar.Int UChar)) (w.told (with_table S.memory (load S.memory a (scalar.Int UChar)).1)))
+      (w.trans (w.loads S.memory (bytes_from S.memory.bytes a 1) (scalar.Int UChar)) (w.told (with_table S.memory (load S.memory a (scalar.Int UChar)).1)))
 
   pub at-steps : (by : Asker) (g : _) (i : ℕ) (S : Now) → Steps S (character_at by g i S)
-  at-steps by g i S = next-steps S (reached by false (further g i) 1 S) _ (reached-steps by false (further g i) 1 S) (λ r T. in-steps g r.address T)
+  at-steps by g i S = next-steps S (reach_for by false (bytes_further g i) 1 S) _ (reached-steps by false (bytes_further g i) 1 S) (λ r T. in-steps g r.address T)
 
   pub row-steps : (n : ℕ) (g : _) (a : ℕ) (read : List ℕ) (S : Now) → Steps S (characters_from n g a read S)
   row-steps zero g a read S = w.itself

@@ -17,7 +17,7 @@ use Rattle.pv_inst.specs.Infos.{base_of}
 use Rattle.pv_inst.specs.Table.{Table, instance_at, IsMadeIn}
 use Rattle.pv_inst.specs.Placing.{Request}
 use Rattle.pv_shadow.specs.declared.byte.Byte.{Byte}
-use Rattle.pv_shadow.specs.Whole.{plain}
+use Rattle.pv_shadow.specs.Whole.{number_bytes}
 use Rattle.pv_object.specs.declared.values.Pointer.{Pointer}
 use Rattle.pv_object.specs.declared.values.Reach.{Reach}
 use Rattle.pv_object.specs.declared.values.Scalar.TheVariants as scalar
@@ -28,19 +28,19 @@ use Rattle.pv_object.specs.declared.values.Value.TheVariants.{Int as IntValue, U
 use Rattle.pv_object.specs.Later.{IsLater}
 use Rattle.pv_object.specs.Memory.{Mem, with_table as retabled}
 use Rattle.pv_object.specs.Access.{reach}
-use Rattle.pv_object.specs.Creating.{created}
+use Rattle.pv_object.specs.Creating.{creation}
 use Rattle.pv_object.specs.Loading.{Loaded}
-use Rattle.pv_object.specs.Operations.{truth, to_ptr, recast, to_int, code, together, order, equal, shift, select}
+use Rattle.pv_object.specs.Operations.{truth, to_ptr, recast, to_int, code, together, order, pointer_equality, shift, select}
 use Rattle.pv_watch.specs.declared.event.What.{What}
 use Rattle.pv_world.specs.declared.got.Shape.{Shape}
 use Rattle.pv_world.specs.declared.got.Shape.TheVariants as shape
 use Rattle.pv_world.specs.declared.got.How.{How}
 use Rattle.pv_world.specs.declared.got.How.TheVariants.{Rounds, Passes, Tests, Numbers, Points, Recasts, Voids}
 use Rattle.pv_world.specs.Worlds.{Worth, Nothing, Missing, Scalar, Whole, World, Wrong, with_table}
-use Rattle.pv_world.specs.Telling.{Told, quiet, telling, used, both_used, code_test}
+use Rattle.pv_world.specs.Telling.{Told, no_telling, telling, event_of_use, both_used, code_test}
 use Rattle.pv_world.specs.Doing.{Done, Answers, Fails, Breaks}
-use Rattle.pv_world.specs.Worths.{int, truth_int, int_of, pointer_of, unless, unplain, unpresent, computed, bytes_of}
-use Rattle.pv_world.specs.Conversions.{truth_by, truth_value, truth_worth, tests, number_by, pointed, recast_by, passes, converts}
+use Rattle.pv_world.specs.Worths.{int, truth_int, int_of, pointer_of, unless, why_not_set, why_missing, arithmetic_result, bytes_of}
+use Rattle.pv_world.specs.Conversions.{truth_by, truth_value, truth_worth, tests, number_by, pointer_by_number, recast_by, passes, converts}
 use Rattle.pv_world.specs.Calculations.{follows_to}
 use Rattle.pv_world.specs.CalculationParts.{calculates, calculates_one}
 use Rattle.pv_world.specs.Pointers.{moved_by, distance, moves, in_elements, elements_by, between_by, ordered_by, equal_by, equals, found_in, found_by, finds}
@@ -86,13 +86,13 @@ module _ {F : Type 0} {R : Mem → Mem → Type 0} (changes : Changes F R) where
   truth-worth w give (Whole bs a) = record { leads = changes.itself }
 
   pub tests-on : (give : Bool → Worth) (v : Worth) (w : World) → Onward R w (tests give v w)
-  tests-on give v w = unless-on (unplain v) w _ (truth-worth w give v)
+  tests-on give v w = unless-on (why_not_set v) w _ (truth-worth w give v)
 
   number-by : (w : World) (p : Pointer) (got : Result (ℤ × Tried) Stop × Table) → Retabled R w.memory got.1 → Onward R w (number_by w p got)
   number-by w p ((Ok r), T) h = record { leads = changes.trans h (changes.told (retabled w.memory T)) }
   number-by w p ((Err y), T) h = record { leads = h }
 
-  pointed-on : (w : World) (got : Result Pointer Stop × Table) → Retabled R w.memory got.1 → Onward R w (pointed w got)
+  pointed-on : (w : World) (got : Result Pointer Stop × Table) → Retabled R w.memory got.1 → Onward R w (pointer_by_number w got)
   pointed-on w ((Ok r), T) h = record { leads = h }
   pointed-on w ((Err y), T) h = record { leads = h }
 
@@ -107,28 +107,28 @@ module _ {F : Type 0} {R : Mem → Mem → Type 0} (changes : Changes F R) where
   passes-on k w (Whole bs a) = record { leads = changes.itself }
 
   pub converts-on : (how : How) (v : Worth) (w : World) → Onward R w (converts how v w)
-  converts-on (Rounds k) v w = unless-on (unplain v) w _ (record { leads = changes.itself })
-  converts-on (Passes k) v w = unless-on (unpresent v) w _ (passes-on k w v)
+  converts-on (Rounds k) v w = unless-on (why_not_set v) w _ (record { leads = changes.itself })
+  converts-on (Passes k) v w = unless-on (why_missing v) w _ (passes-on k w v)
   converts-on Tests v w = tests-on truth_int v w
-  converts-on (Numbers k) v w = unless-on (unplain v) w _ (number-by w (pointer_of v) (to_int w.memory.table (pointer_of v) k) (to_int-leads changes w.memory (pointer_of v) k))
-  converts-on Points v w = unless-on (unplain v) w _ (pointed-on w (to_ptr w.memory.table (int_of v)) (to_ptr-leads changes w.memory (int_of v)))
-  converts-on (Recasts n) v w = unless-on (unplain v) w _ (recast-by w (pointer_of v) (recast w.memory.table (pointer_of v) n) (recast-leads changes w.memory (pointer_of v) n))
+  converts-on (Numbers k) v w = unless-on (why_not_set v) w _ (number-by w (pointer_of v) (to_int w.memory.table (pointer_of v) k) (to_int-leads changes w.memory (pointer_of v) k))
+  converts-on Points v w = unless-on (why_not_set v) w _ (pointed-on w (to_ptr w.memory.table (int_of v)) (to_ptr-leads changes w.memory (int_of v)))
+  converts-on (Recasts n) v w = unless-on (why_not_set v) w _ (recast-by w (pointer_of v) (recast w.memory.table (pointer_of v) n) (recast-leads changes w.memory (pointer_of v) n))
   converts-on Voids v w = record { leads = changes.itself }
 
   -- operators on integers
-  computed-on : (w : World) (r : Result ℤ ArithmeticFault) → Onward R w (computed w r)
+  computed-on : (w : World) (r : Result ℤ ArithmeticFault) → Onward R w (arithmetic_result w r)
   computed-on w (Ok n) = record { leads = changes.itself }
   computed-on w (Err f) = record { leads = changes.itself }
 
   pub calculates-on : (op : BinOp) (k : IntKind) (v x : Worth) (w : World) → Onward R w (calculates op k v x w)
-  calculates-on op k v x w = unless-on (unplain v) w _ (unless-on (unplain x) w _ (computed-on w (binary_of op k (int_of v) (int_of x))))
+  calculates-on op k v x w = unless-on (why_not_set v) w _ (unless-on (why_not_set x) w _ (computed-on w (binary_of op k (int_of v) (int_of x))))
 
   pub calculates-one-on : (op : UnOp) (k : IntKind) (v : Worth) (w : World) → Onward R w (calculates_one op k v w)
-  calculates-one-on op k v w = unless-on (unplain v) w _ (computed-on w (unary_of op k (int_of v)))
+  calculates-one-on op k v w = unless-on (why_not_set v) w _ (computed-on w (unary_of op k (int_of v)))
 
   pub follows-on : (nothing : Bool) (v : Worth) (w : World) → Onward R w (follows_to nothing v w)
-  follows-on true v w = unless-on (unpresent v) w _ (record { leads = changes.itself })
-  follows-on false v w = unless-on (unpresent v) w _ (record { leads = changes.itself })
+  follows-on true v w = unless-on (why_missing v) w _ (record { leads = changes.itself })
+  follows-on false v w = unless-on (why_missing v) w _ (record { leads = changes.itself })
 
   -- operations on pointers
   moved-by : (w : World) (p : Pointer) (got : Result (Pointer × Tried) Stop × Table) → Retabled R w.memory got.1 → Onward R w (moved_by w p got)
@@ -139,11 +139,11 @@ module _ {F : Type 0} {R : Mem → Mem → Type 0} (changes : Changes F R) where
   pointer-moves minus size p n w = moved-by w (pointer_of p) (shift w.memory.table (pointer_of p) (distance minus size (int_of n))) (move-leads changes AdditionOfPointers w.memory (pointer_of p) (distance minus size (int_of n)))
 
   pub moves-on : (minus first : Bool) (size : ℕ) (v x : Worth) (w : World) → Onward R w (moves minus first size v x w)
-  moves-on minus true size v x w = unless-on (unplain v) w _ (unless-on (unplain x) w _ (pointer-moves minus size v x w))
-  moves-on minus false size v x w = unless-on (unplain v) w _ (unless-on (unplain x) w _ (pointer-moves minus size x v w))
+  moves-on minus true size v x w = unless-on (why_not_set v) w _ (unless-on (why_not_set x) w _ (pointer-moves minus size v x w))
+  moves-on minus false size v x w = unless-on (why_not_set v) w _ (unless-on (why_not_set x) w _ (pointer-moves minus size x v w))
 
   pub selects-on : (offset : ℕ) (v : Worth) (w : World) → Onward R w (selects offset v w)
-  selects-on offset v w = unless-on (unpresent v) w _ (moved-by w (pointer_of v) (select w.memory.table (pointer_of v) offset) (move-leads changes Indirection w.memory (pointer_of v) (pos offset)))
+  selects-on offset v w = unless-on (why_missing v) w _ (moved-by w (pointer_of v) (select w.memory.table (pointer_of v) offset) (move-leads changes Indirection w.memory (pointer_of v) (pos offset)))
 
   found-in : (w : World) (p : Pointer) (fits : Option ℕ → Bool) (o : Option ℕ) (us : List What) → Onward R w (found_in w p fits o us)
   found-in w p fits o us = by (fits o)
@@ -153,11 +153,11 @@ module _ {F : Type 0} {R : Mem → Mem → Type 0} (changes : Changes F R) where
       by false = record { leads = changes.itself }
 
   found-by : (w : World) (p : Pointer) (fits : Option ℕ → Bool) (got : Result (ℕ × Tried) Stop × Table) → Retabled R w.memory got.1 → Onward R w (found_by w p fits got)
-  found-by w p fits ((Ok r), T) h = record { leads = changes.trans h (found-in (with_table w T) p fits (owner_of w r.0) (used code_test r.1)).leads }
+  found-by w p fits ((Ok r), T) h = record { leads = changes.trans h (found-in (with_table w T) p fits (owner_of w r.0) (event_of_use code_test r.1)).leads }
   found-by w p fits ((Err y), T) h = record { leads = h }
 
   pub finds-on : (fits : Option ℕ → Bool) (v : Worth) (w : World) → Onward R w (finds fits v w)
-  finds-on fits v w = unless-on (unplain v) w _ (found-by w (pointer_of v) fits (code w.memory.table (pointer_of v)) (code-leads changes w.memory (pointer_of v)))
+  finds-on fits v w = unless-on (why_not_set v) w _ (found-by w (pointer_of v) fits (code w.memory.table (pointer_of v)) (code-leads changes w.memory (pointer_of v)))
 
   elements-by : (w : World) (p : Pointer) (us : List What) (o : Option ℤ) → Onward R w (elements_by w p us o)
   elements-by w p us (Some n) = record { leads = changes.itself }
@@ -186,7 +186,7 @@ module _ {F : Type 0} {R : Mem → Mem → Type 0} (changes : Changes F R) where
   equal-by negated w p q ((Err y), T) h = record { leads = h }
 
   pub equals-on : (negated : Bool) (v x : Worth) (w : World) → Onward R w (equals negated v x w)
-  equals-on negated v x w = unless-on (unplain v) w _ (unless-on (unplain x) w _ (equal-by negated w (pointer_of v) (pointer_of x) (equal w.memory.table (pointer_of v) (pointer_of x)) (equal-leads changes w.memory (pointer_of v) (pointer_of x))))
+  equals-on negated v x w = unless-on (why_not_set v) w _ (unless-on (why_not_set x) w _ (equal-by negated w (pointer_of v) (pointer_of x) (pointer_equality w.memory.table (pointer_of v) (pointer_of x)) (equal-leads changes w.memory (pointer_of v) (pointer_of x))))
 
   -- accesses: what was reached lies in a live instance, and nothing else has changed
   reaching-by : (w : World) (p : Pointer) (n : ℕ) (us : List What) (got : Result Reach Stop × Table) (go : Reach → World → Told → Done) → Retabled R w.memory got.1 → IsLater w.memory.table got.1
@@ -211,7 +211,7 @@ module _ {F : Type 0} {R : Mem → Mem → Type 0} (changes : Changes F R) where
   worth-on w bytes (shape.Int k) origin p t = scalar-by w bytes (shape.Int k) p t (scalar_as w.memory.table bytes (shape.Int k)) (value-leads changes w.memory bytes (scalar.Int k))
 
   pub takes-on : (offset size : ℕ) (s : Shape) (v : Worth) (w : World) → Onward R w (takes_bytes offset size s v w)
-  takes-on offset size s v w = unless-on (unpresent v) w _ (worth-on w (take size (drop offset (bytes_of v))) s None None quiet)
+  takes-on offset size s v w = unless-on (why_missing v) w _ (worth-on w (take size (drop offset (bytes_of v))) s None None no_telling)
 
   -- instances
   object-made : (w : World) (o : ℕ) (lasting : Bool) (name : ℕ) (got : Result ℕ CreateError × Mem) → R w.memory got.1 → Onward R w (object_made w o lasting name got)
@@ -220,25 +220,25 @@ module _ {F : Type 0} {R : Mem → Mem → Type 0} (changes : Changes F R) where
   object-made w o lasting name ((Err e), M) h = record { leads = h }
 
   pub object-on : (o : ℕ) (lasting : Bool) (r : Request) (w : World) → (F → 1 ≤ r.size) → Onward R w (makes_object o lasting r w)
-  object-on o lasting r w some = object-made w o lasting r.name (created w.memory r) (changes.makes w.memory r some)
+  object-on o lasting r w some = object-made w o lasting r.name (creation w.memory r) (changes.makes w.memory r some)
 
   function-made : (w : World) (f name : ℕ) (got : Result ℕ CreateError × Mem) → R w.memory got.1 → Onward R w (function_made w f name got)
   function-made w f name ((Ok i), M) h = record { leads = h }
   function-made w f name ((Err e), M) h = record { leads = h }
 
   pub function-on : (f : ℕ) (r : Request) (w : World) → (F → 1 ≤ r.size) → Onward R w (makes_function f r w)
-  function-on f r w some = function-made w f r.name (created w.memory r) (changes.makes w.memory r some)
+  function-on f r w some = function-made w f r.name (creation w.memory r) (changes.makes w.memory r some)
 
   -- 6.4.5p6: the characters of a literal are stored in its array
   literal-made : (w : World) (l : ℕ) (bytes : List ℕ) (got : Result ℕ CreateError × Mem) → R w.memory got.1 → IfOk got.0 (λ i. AreInLive got.1.table (base_of (instance_at got.1.table.instances i)) (length bytes))
       → Onward R w (literal_made w l bytes got)
   literal-made w l bytes ((Ok i), M) h k =
       let a = base_of (instance_at M.table.instances i) in
-      record { leads = changes.trans h (changes.stores M a (plain None 0 bytes) (subst (λ n. AreInLive M.table a n) (sym (plain-length None 0 bytes)) k) (plain-made M.table None 0 bytes)) }
+      record { leads = changes.trans h (changes.stores M a (number_bytes None 0 bytes) (subst (λ n. AreInLive M.table a n) (sym (plain-length None 0 bytes)) k) (plain-made M.table None 0 bytes)) }
   literal-made w l bytes ((Err e), M) h k = record { leads = h }
 
   pub literal-on : (l : ℕ) (text bytes : List ℕ) (w : World) → (F → 1 ≤ (literal_request text bytes).size) → Onward R w (makes_literal_of l text bytes w)
-  literal-on l text bytes w some = literal-made w l bytes (created w.memory (literal_request text bytes)) (changes.makes w.memory (literal_request text bytes) some) (created-in-live w.memory (literal_request text bytes))
+  literal-on l text bytes w some = literal-made w l bytes (creation w.memory (literal_request text bytes)) (changes.makes w.memory (literal_request text bytes) some) (created-in-live w.memory (literal_request text bytes))
 
   pub ends-on : (w : World) (i : ℕ) → IsLive w.memory.table.instances i → Onward R w (ends_instance w i)
   ends-on w i h = record { leads = changes.ends w.memory i h }

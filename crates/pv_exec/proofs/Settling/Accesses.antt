@@ -13,7 +13,7 @@ use Rattle.pv_inst.specs.Table.{Table, instance_at, live_bytes, count_of}
 use Rattle.pv_inst.specs.Use.{use_answer}
 use Rattle.pv_inst.specs.EndingParts.{ending}
 use Rattle.pv_inst.specs.Placing.{Request, place, place_said, place_at, unless_overlap, first_overlap}
-use Rattle.pv_inst.specs.PlacingParts.{rounded}
+use Rattle.pv_inst.specs.PlacingParts.{multiple_of_16}
 use Rattle.pv_fault.specs.declared.faults.Clause.{Clause}
 use Rattle.pv_object.specs.declared.values.Pointer.{Pointer}
 use Rattle.pv_object.specs.declared.values.Reach.{Reach}
@@ -22,7 +22,7 @@ use Rattle.pv_object.specs.declared.values.Asker.TheVariants.{Access}
 use Rattle.pv_object.specs.declared.values.Stop.{Stop}
 use Rattle.pv_object.specs.Access.{is_null, clause_of, reach_after, reach}
 use Rattle.pv_object.specs.Memory.{Mem}
-use Rattle.pv_object.specs.Creating.{made, created, without}
+use Rattle.pv_object.specs.Creating.{with_new_bytes, creation, without}
 use Rattle.pv_watch.specs.declared.event.What.{What}
 use Rattle.pv_world.specs.Worlds.{World, with_table}
 use Rattle.pv_world.specs.Telling.{Told, telling}
@@ -102,7 +102,7 @@ at-apart ds T r k base default =
     (either-apart ds T (not (eqb (base % r.align) 0)) (_, T) (_, on_table ds T) _ _ (record { is = refl; pairs = refl }) (overlap-apart ds T (first_overlap T.instances base r.size) r k base default))
 
 said-apart : (ds : List Bool) (T : Table) (o : Option Place) (r : Request) (k : ℕ) → IsApart ds T (place_said o T r k) (place_said o (on_table ds T) r k)
-said-apart ds T None r k = at-apart ds T r k (rounded T.cursor) true
+said-apart ds T None r k = at-apart ds T r k (multiple_of_16 T.cursor) true
 said-apart ds T (Some (At base)) r k = at-apart ds T r k base false
 said-apart ds T (Some Null) r k = record { is = refl; pairs = refl }
 
@@ -110,18 +110,18 @@ place-apart : (ds : List Bool) (T : Table) (r : Request) → IsApart ds T (place
 place-apart ds T r =
     either-apart ds T (ltb (2 ^ 24) (live_bytes T.instances + r.size)) (_, _) (_, _) _ _ (record { is = refl; pairs = refl }) (said-apart ds T (place_of T.script r.text (count_of T r.name + 1)) r (count_of T r.name + 1))
 
-made-on : (ds : List Bool) (M : Mem) (x : Result ℕ CreateError × Table) → made (on_memory ds M) (second ds x) ≡ ((made M x).0, on_memory ds (made M x).1)
+made-on : (ds : List Bool) (M : Mem) (x : Result ℕ CreateError × Table) → with_new_bytes (on_memory ds M) (second ds x) ≡ ((with_new_bytes M x).0, on_memory ds (with_new_bytes M x).1)
 made-on ds M ((Ok i), U) = refl
 made-on ds M ((Err e), U) = refl
 
-made-pairs : (M : Mem) (x : Result ℕ CreateError × Table) → (made M x).1.table.pairs ≡ x.1.pairs
+made-pairs : (M : Mem) (x : Result ℕ CreateError × Table) → (with_new_bytes M x).1.table.pairs ≡ x.1.pairs
 made-pairs M ((Ok i), U) = refl
 made-pairs M ((Err e), U) = refl
 
-pub created-on : (ds : List Bool) (M : Mem) (r : Request) → created (on_memory ds M) r ≡ ((created M r).0, on_memory ds (created M r).1)
-created-on ds M r = ap (made (on_memory ds M)) (place-apart ds M.table r).is ∙ made-on ds M (place M.table r)
+pub created-on : (ds : List Bool) (M : Mem) (r : Request) → creation (on_memory ds M) r ≡ ((creation M r).0, on_memory ds (creation M r).1)
+created-on ds M r = ap (with_new_bytes (on_memory ds M)) (place-apart ds M.table r).is ∙ made-on ds M (place M.table r)
 
-pub created-pairs : (M : Mem) (r : Request) → (created M r).1.table.pairs ≡ M.table.pairs
+pub created-pairs : (M : Mem) (r : Request) → (creation M r).1.table.pairs ≡ M.table.pairs
 created-pairs M r = made-pairs M (place M.table r) ∙ (place-apart [] M.table r).pairs
 
 -- an end looks at no pair
@@ -149,7 +149,7 @@ module _ (F : Type 0) (ds : List Bool) where
   pub object-tracks : (o : ℕ) (lasting : Bool) (r : Request) (w : World) → Fits F ds w → Tracks ds (makes_object o lasting r w) (makes_object o lasting r (on_world ds w))
   object-tracks o lasting r w f =
       subst (λ q. Tracks ds (makes_object o lasting r w) (object_made (on_world ds w) o lasting r.name q)) (sym (created-on ds w.memory r))
-      (object-by w o lasting r.name (created w.memory r) f (created-pairs w.memory r))
+      (object-by w o lasting r.name (creation w.memory r) f (created-pairs w.memory r))
 
   literal-by : (w : World) (l : ℕ) (bytes : List ℕ) (got : Result ℕ CreateError × Mem) → Fits F ds w → got.1.table.pairs ≡ pairs_of w → Tracks ds (literal_made w l bytes got) (literal_made (on_world ds w) l bytes (got.0, on_memory ds got.1))
   literal-by w l bytes ((Ok i), M) f e = (refl, refl, subst (Allows ds) (sym e) f.1, refl, subst (Nearly ds) (sym e) (nearly ds (pairs_of w) f.2))
@@ -158,7 +158,7 @@ module _ (F : Type 0) (ds : List Bool) where
   pub literal-tracks : (l : ℕ) (text bytes : List ℕ) (w : World) → Fits F ds w → Tracks ds (makes_literal_of l text bytes w) (makes_literal_of l text bytes (on_world ds w))
   literal-tracks l text bytes w f =
       subst (λ q. Tracks ds (makes_literal_of l text bytes w) (literal_made (on_world ds w) l bytes q)) (sym (created-on ds w.memory (literal_request text bytes)))
-      (literal-by w l bytes (created w.memory (literal_request text bytes)) f (created-pairs w.memory (literal_request text bytes)))
+      (literal-by w l bytes (creation w.memory (literal_request text bytes)) f (created-pairs w.memory (literal_request text bytes)))
 
   function-by : (w : World) (f name : ℕ) (got : Result ℕ CreateError × Mem) → Fits F ds w → got.1.table.pairs ≡ pairs_of w → Tracks ds (function_made w f name got) (function_made (on_world ds w) f name (got.0, on_memory ds got.1))
   function-by w g name ((Ok i), M) f e = (refl, refl, subst (Allows ds) (sym e) f.1, refl, subst (Nearly ds) (sym e) (nearly ds (pairs_of w) f.2))
@@ -167,7 +167,7 @@ module _ (F : Type 0) (ds : List Bool) where
   pub function-tracks : (f : ℕ) (r : Request) (w : World) → Fits F ds w → Tracks ds (makes_function f r w) (makes_function f r (on_world ds w))
   function-tracks g r w f =
       subst (λ q. Tracks ds (makes_function g r w) (function_made (on_world ds w) g r.name q)) (sym (created-on ds w.memory r))
-      (function-by w g r.name (created w.memory r) f (created-pairs w.memory r))
+      (function-by w g r.name (creation w.memory r) f (created-pairs w.memory r))
 
   pub ends-tracks : (w : World) (i : ℕ) → Fits F ds w → Tracks ds (ends_instance w i) (ends_instance (on_world ds w) i)
   ends-tracks w i f =

@@ -4,7 +4,7 @@ use Rattle.std.specs.Prelude.{nat_lt}
 use Rattle.std.specs.List.{slice_get}
 use Rattle.std.proofs.lemmas.Bool.Decides.{nat_tests}
 use Rattle.pv_prov.specs.declared.pairs.Twin.{Twin}
-use Rattle.pv_prov.specs.Names.{twin_at, kept}
+use Rattle.pv_prov.specs.Names.{twin_at, after_narrowing}
 use Rattle.pv_prov.specs.NameParts.{keeping}
 use Rattle.pv_fault.specs.declared.verdict.Verdict.TheVariants as verdict
 use Rattle.pv_world.specs.Worlds.{Worth, World, Wrong, ByVerdict, Halts, with_table}
@@ -12,7 +12,7 @@ use Rattle.pv_world.specs.Telling.{Told}
 use Rattle.pv_world.specs.Doing.{Done, Answers, Fails, Breaks}
 use Rattle.pv_eval.specs.declared.marked.Marked.{Marked}
 use Rattle.pv_eval.specs.States.{Setting, State, Why, Turns, Unreached, Stopped, Res, Gives, Stops, end_of}
-use Rattle.pv_eval.specs.Acting.{noted, pair_count, sided, settling, by_side, answered, acted}
+use Rattle.pv_eval.specs.Acting.{after_telling, pair_count, with_side, settling, by_side, answer_with_sides, after_doing}
 use Rattle.pv_eval.specs.ActingParts.{one_kept, keeps_both}
 use Rattle.pv_exec.proofs.Settling.Sides.{to_side, on_sides, on_world, holds, Allows, Covers, Nearly, length-sides}
 use Rattle.pv_exec.proofs.Settling.Doings.{pairs_of, IsWrong, IsBad, EndsBy, Halted, Tracks}
@@ -139,36 +139,36 @@ module _ (b b' : Setting) (ds : List Bool) (late : b.sides ≡ None) (sides : b'
   before-on : State
   before-on = on_state ds es s
 
-  bad-undefined : (d : Done) → IsBad d → IsUndefined (acted b' line d (on_state ds es s)) s.taken
+  bad-undefined : (d : Done) → IsBad d → IsUndefined (after_doing b' line d (on_state ds es s)) s.taken
   bad-undefined (Answers v w t) h = absurd h
   bad-undefined (Fails y p w t) h = wrong-undefined y line _ s.taken h (omega arith)
   bad-undefined (Breaks y p w t) h = wrong-undefined y line _ s.taken h (omega arith)
 
-  ends-as : (y : Wrong) (t : Told) (d : Done) (u : State) → EndsBy y t.bytes d → u.taken ≡ s.taken → u.output ≡ s.output ++ t.bytes → EndsAs (Stopped y line) u (acted b' line d (on_state ds es s))
+  ends-as : (y : Wrong) (t : Told) (d : Done) (u : State) → EndsBy y t.bytes d → u.taken ≡ s.taken → u.output ≡ s.output ++ t.bytes → EndsAs (Stopped y line) u (after_doing b' line d (on_state ds es s))
   ends-as z t (Answers v w q) u e f g = absurd e
   ends-as z t (Fails y p w q) u e f g = (ap (λ z. Stopped z line) e.0, sym f, ap (λ z. s.output ++ z) e.1 ∙ sym g)
   ends-as z t (Breaks y p w q) u e f g = (ap (λ z. Stopped z line) e.0, sym f, ap (λ z. s.output ++ z) e.1 ∙ sym g)
 
   -- the late run stops in an operation
   stop-follows : (y : Wrong) (w : World) (t : Told) (u : State) (d : Done) → u.taken ≡ s.taken → u.output ≡ s.output ++ t.bytes → u.world ≡ w → Halted cs y (pairs_of w) t.bytes d
-      → Follows {A = Worth} ds (Stops (Stopped y line) u) (acted b' line d (on_state ds es s))
-  stop-follows (ByVerdict (verdict.Undefined f)) w t u d e g i h = subst (λ n. IsUndefined (acted b' line d (on_state ds es s)) n) (sym e) (bad-undefined d h)
+      → Follows {A = Worth} ds (Stops (Stopped y line) u) (after_doing b' line d (on_state ds es s))
+  stop-follows (ByVerdict (verdict.Undefined f)) w t u d e g i h = subst (λ n. IsUndefined (after_doing b' line d (on_state ds es s)) n) (sym e) (bad-undefined d h)
   stop-follows (ByVerdict verdict.Undecided) w t u d e g i h = tt
   stop-follows (ByVerdict verdict.Indeterminate) w t u d e g i (inl h) = inl (ends-as (ByVerdict verdict.Indeterminate) t d u h.0 e g)
   stop-follows (Halts x) w t u d e g i (inl h) = inl (ends-as (Halts x) t d u h.0 e g)
   stop-follows (ByVerdict verdict.Indeterminate) w t u d e g i (inr h) =
-      inr (λ a. h.1 (cut-less ds (pairs_at s) (pairs_of w) (subst (λ (v : World). Allows ds (pairs_of v)) i a)), subst (λ n. IsUndefined (acted b' line d (on_state ds es s)) n) (sym e) (bad-undefined d h.0))
+      inr (λ a. h.1 (cut-less ds (pairs_at s) (pairs_of w) (subst (λ (v : World). Allows ds (pairs_of v)) i a)), subst (λ n. IsUndefined (after_doing b' line d (on_state ds es s)) n) (sym e) (bad-undefined d h.0))
   stop-follows (Halts x) w t u d e g i (inr h) =
-      inr (λ a. h.1 (cut-less ds (pairs_at s) (pairs_of w) (subst (λ (v : World). Allows ds (pairs_of v)) i a)), subst (λ n. IsUndefined (acted b' line d (on_state ds es s)) n) (sym e) (bad-undefined d h.0))
+      inr (λ a. h.1 (cut-less ds (pairs_at s) (pairs_of w) (subst (λ (v : World). Allows ds (pairs_of v)) i a)), subst (λ n. IsUndefined (after_doing b' line d (on_state ds es s)) n) (sym e) (bad-undefined d h.0))
 
   -- it goes on, and the settled one has ended
-  gone : (v : Worth) (w : World) (t : Told) (d : Done) → IsBad d → (Allows cs (pairs_of w) → ⊥) → Follows ds (Gives v (noted w t s)) (acted b' line d (on_state ds es s))
+  gone : (v : Worth) (w : World) (t : Told) (d : Done) → IsBad d → (Allows cs (pairs_of w) → ⊥) → Follows ds (Gives v (after_telling w t s)) (after_doing b' line d (on_state ds es s))
   gone v w t d h n = inr (λ a. n (cut-less ds (pairs_at s) (pairs_of w) a), bad-undefined d h)
 
   -- both go on with the same pairs
-  even-follows : (v : Worth) (w : World) (t t' : Told) → t'.bytes ≡ t.bytes → IsEven ds (pairs_at s) (pairs_of w) → Stays ds v (noted w t s) (answered (Some ds) v line (on_world cs w) t' (on_state ds es s))
+  even-follows : (v : Worth) (w : World) (t t' : Told) → t'.bytes ≡ t.bytes → IsEven ds (pairs_at s) (pairs_of w) → Stays ds v (after_telling w t s) (answer_with_sides (Some ds) v line (on_world cs w) t' (on_state ds es s))
   even-follows v w t t' e h =
-      let after = noted (on_world cs w) t' (on_state ds es s) in
+      let after = after_telling (on_world cs w) t' (on_state ds es s) in
       let here = length-sides ds (pairs_at s) in
       let there = length-sides cs (pairs_of w) in
       let many = h.many in
@@ -180,7 +180,7 @@ module _ (b b' : Setting) (ds : List Bool) (late : b.sides ≡ None) (sides : b'
       )
 
   -- both go on with one pair more
-  more-follows : (v : Worth) (w : World) (t t' : Told) → t'.bytes ≡ t.bytes → IsMore ds (pairs_at s) (pairs_of w) → Stays ds v (noted w t s) (answered (Some ds) v line (on_world cs w) t' (on_state ds es s))
+  more-follows : (v : Worth) (w : World) (t t' : Told) → t'.bytes ≡ t.bytes → IsMore ds (pairs_at s) (pairs_of w) → Stays ds v (after_telling w t s) (answer_with_sides (Some ds) v line (on_world cs w) t' (on_state ds es s))
   more-follows v w t t' e h =
       let W = on_world cs w in
       let us = on_sides cs (pairs_of w) in
@@ -192,35 +192,35 @@ module _ (b b' : Setting) (ds : List Bool) (late : b.sides ≡ None) (sides : b'
       let at : k - 1 ≡ length (pairs_at s) = omega (arith, there, many) in
       let last : twin_at us k ≡ Some h.last = ap (slice_get us) at ∙ h.last_at in
       let told = settling k t' in
-      let after : (x : World) → State = λ x. noted x told (on_state ds es s) in
-      let kept-is : kept us k (not h.side) h.side ≡ on_sides ds (pairs_of w) =
+      let after : (x : World) → State = λ x. after_telling x told (on_state ds es s) in
+      let kept-is : after_narrowing us k (not h.side) h.side ≡ on_sides ds (pairs_of w) =
       ap (λ o. keeping o us k (not h.side) h.side) last ∙ ap (λ n. set us n (to_side h.side h.last)) at ∙ h.on in
-      let sided-is : sided W k h.side ≡ one_kept W k h.side = ap (λ o. cond (keeps_both o) (one_kept W k h.side) W) last ∙ ap (λ c. cond c (one_kept W k h.side) W) h.both in (
+      let sided-is : with_side W k h.side ≡ one_kept W k h.side = ap (λ o. cond (keeps_both o) (one_kept W k h.side) W) last ∙ ap (λ c. cond c (one_kept W k h.side) W) h.both in (
         h.allows,
         (after W).events,
-        ap (λ c. cond c (by_side (slice_get ds (pair_count (on_state ds es s).world)) v line W t' (on_state ds es s)) (Gives v (noted W t' (on_state ds es s)))) less
+        ap (λ c. cond c (by_side (slice_get ds (pair_count (on_state ds es s).world)) v line W t' (on_state ds es s)) (Gives v (after_telling W t' (on_state ds es s)))) less
             ∙ ap (λ n. by_side (slice_get ds n) v line W t' (on_state ds es s)) here
             ∙ ap (λ o. by_side o v line W t' (on_state ds es s)) h.there
             ∙ ap (λ x. Gives v (after x)) sided-is
             ∙ λ i. Gives v (record { world = with_table w (record w.memory.table { pairs = kept-is i }); output = s.output ++ e i; events = (after W).events; taken = s.taken }),
       )
 
-  both-follow : (v : Worth) (w : World) (t t' : Told) → t'.bytes ≡ t.bytes → IsEven ds (pairs_at s) (pairs_of w) ⊎ IsMore ds (pairs_at s) (pairs_of w) → Stays ds v (noted w t s) (answered (Some ds) v line (on_world cs w) t' (on_state ds es s))
+  both-follow : (v : Worth) (w : World) (t t' : Told) → t'.bytes ≡ t.bytes → IsEven ds (pairs_at s) (pairs_of w) ⊎ IsMore ds (pairs_at s) (pairs_of w) → Stays ds v (after_telling w t s) (answer_with_sides (Some ds) v line (on_world cs w) t' (on_state ds es s))
   both-follow v w t t' e (inl h) = even-follows v w t t' e h
   both-follow v w t t' e (inr h) = more-follows v w t t' e h
 
-  acted-by : (d d' : Done) → length (pairs_at (end_of (acted b line d s))) ≤ length ds → Tracks cs d d' → Follows ds (acted b line d s) (acted b' line d' (on_state ds es s))
+  acted-by : (d d' : Done) → length (pairs_at (end_of (after_doing b line d s))) ≤ length ds → Tracks cs d d' → Follows ds (after_doing b line d s) (after_doing b' line d' (on_state ds es s))
   acted-by (Answers v w t) (Answers v' w' t') n h =
-      subst (λ o. Follows ds (answered o v line w t s) (answered b'.sides v' line w' t' (on_state ds es s))) (sym late)
-      (subst (λ o. Follows ds (Gives v (noted w t s)) (answered o v' line w' t' (on_state ds es s))) (sym sides)
-      (subst (λ x. Follows ds (Gives v (noted w t s)) (answered (Some ds) x line w' t' (on_state ds es s))) (sym h.0)
-      (subst (λ x. Follows ds (Gives v (noted w t s)) (answered (Some ds) v line x t' (on_state ds es s))) (sym h.3)
-      (inl (both-follow v w t t' h.1 (counted ds (pairs_at s) (pairs_of w) few (subst (λ o. length (pairs_at (end_of (answered o v line w t s))) ≤ length ds) late n) h.4 h.2))))))
-  acted-by (Answers v w t) (Fails y' p' w' t') n h = subst (λ o. Follows ds (answered o v line w t s) (acted b' line (Fails y' p' w' t') (on_state ds es s))) (sym late) (gone v w t (Fails y' p' w' t') h.0 h.1)
-  acted-by (Answers v w t) (Breaks y' p' w' t') n h = subst (λ o. Follows ds (answered o v line w t s) (acted b' line (Breaks y' p' w' t') (on_state ds es s))) (sym late) (gone v w t (Breaks y' p' w' t') h.0 h.1)
+      subst (λ o. Follows ds (answer_with_sides o v line w t s) (answer_with_sides b'.sides v' line w' t' (on_state ds es s))) (sym late)
+      (subst (λ o. Follows ds (Gives v (after_telling w t s)) (answer_with_sides o v' line w' t' (on_state ds es s))) (sym sides)
+      (subst (λ x. Follows ds (Gives v (after_telling w t s)) (answer_with_sides (Some ds) x line w' t' (on_state ds es s))) (sym h.0)
+      (subst (λ x. Follows ds (Gives v (after_telling w t s)) (answer_with_sides (Some ds) v line x t' (on_state ds es s))) (sym h.3)
+      (inl (both-follow v w t t' h.1 (counted ds (pairs_at s) (pairs_of w) few (subst (λ o. length (pairs_at (end_of (answer_with_sides o v line w t s))) ≤ length ds) late n) h.4 h.2))))))
+  acted-by (Answers v w t) (Fails y' p' w' t') n h = subst (λ o. Follows ds (answer_with_sides o v line w t s) (after_doing b' line (Fails y' p' w' t') (on_state ds es s))) (sym late) (gone v w t (Fails y' p' w' t') h.0 h.1)
+  acted-by (Answers v w t) (Breaks y' p' w' t') n h = subst (λ o. Follows ds (answer_with_sides o v line w t s) (after_doing b' line (Breaks y' p' w' t') (on_state ds es s))) (sym late) (gone v w t (Breaks y' p' w' t') h.0 h.1)
   acted-by (Fails y p w t) d' n h = stop-follows y w t _ d' refl refl refl h
   acted-by (Breaks y p w t) d' n h = stop-follows y w t _ d' refl refl refl h
 
 pub acted-follows : (b b' : Setting) (ds : List Bool) → b.sides ≡ None → b'.sides ≡ Some ds → (line : ℕ) (s : State) (es : List Marked) → length (pairs_at s) ≤ length ds → (d d' : Done)
-    → length (pairs_at (end_of (acted b line d s))) ≤ length ds → Tracks (cut ds (pairs_at s)) d d' → Follows ds (acted b line d s) (acted b' line d' (on_state ds es s))
+    → length (pairs_at (end_of (after_doing b line d s))) ≤ length ds → Tracks (cut ds (pairs_at s)) d d' → Follows ds (after_doing b line d s) (after_doing b' line d' (on_state ds es s))
 acted-follows b b' ds late sides line s es few d d' n h = acted-by b b' ds late sides line s es few d d' n h

@@ -9,7 +9,7 @@ use Rattle.pv_inst.specs.declared.values.Tried.{Tried}
 use Rattle.pv_inst.specs.declared.values.Miss.{Miss}
 use Rattle.pv_inst.specs.declared.values.Miss.TheVariants as miss
 use Rattle.pv_inst.specs.Table.{Table}
-use Rattle.pv_inst.specs.Use.{use_answer, settled}
+use Rattle.pv_inst.specs.Use.{use_answer, after_use}
 use Rattle.pv_object.specs.declared.values.Stop.{Stop}
 use Rattle.pv_object.specs.declared.values.Stop.TheVariants as stop
 use Rattle.pv_fault.specs.declared.verdict.Verdict.TheVariants as verdict
@@ -81,18 +81,18 @@ range-fault c miss.Undecided = tt
 
 -- an answer that is made of what a use found
 pub by-answers : {A : Type 0} (ds : List Bool) (V : A → A → Type 0) (f : Result Tried Miss → Result A Stop) (T T' : Table) (p : Prov) (r r' : Result Tried Miss) → Covers ds T.pairs
-    → ((t t' : Tried) → Similar V (f (Ok t)) (f (Ok t'))) → ((m : Miss) → IsErrFault (f (Err m))) → Agree ds r (settled T p r) r' (settled T' p r') → T' ≡ on_table ds T
-    → Along ds V (f r, settled T p r) (f r', settled T' p r')
-by-answers ds V f T T' p (Ok t) (Ok t') c s g h e = along ds V (f (Ok t)) (f (Ok t')) (settled T p (Ok t)) (settled T' p (Ok t')) (s t t') h.0 (nearly ds (settled T p (Ok t)).pairs (settled-covers ds T p (Ok t) c)) h.1
+    → ((t t' : Tried) → Similar V (f (Ok t)) (f (Ok t'))) → ((m : Miss) → IsErrFault (f (Err m))) → Agree ds r (after_use T p r) r' (after_use T' p r') → T' ≡ on_table ds T
+    → Along ds V (f r, after_use T p r) (f r', after_use T' p r')
+by-answers ds V f T T' p (Ok t) (Ok t') c s g h e = along ds V (f (Ok t)) (f (Ok t')) (after_use T p (Ok t)) (after_use T' p (Ok t')) (s t t') h.0 (nearly ds (after_use T p (Ok t)).pairs (settled-covers ds T p (Ok t) c)) h.1
 by-answers {A = A} ds V f T T' p (Ok t) (Err m') c s g h e = go (f (Err m')) (g m')
   where
-    go : (x : Result A Stop) → IsErrFault x → Along ds V (f (Ok t), settled T p (Ok t)) (x, settled T' p (Err m'))
+    go : (x : Result A Stop) → IsErrFault x → Along ds V (f (Ok t), after_use T p (Ok t)) (x, after_use T' p (Err m'))
     go (Ok a) k = absurd k
-    go (Err y) k = lost ds V (f (Ok t)) (settled T p (Ok t)) y (settled T' p (Err m')) k h
+    go (Err y) k = lost ds V (f (Ok t)) (after_use T p (Ok t)) y (after_use T' p (Err m')) k h
 by-answers ds V f T T' p (Err m) (Ok t') c s g h e = absurd h
 by-answers {A = A} ds V f T T' p (Err m) (Err m') c s g h e = go (f (Err m)) (g m)
   where
-    go : (x : Result A Stop) → IsErrFault x → Along ds V (x, settled T p (Err m)) (f (Err m'), settled T' p (Err m'))
+    go : (x : Result A Stop) → IsErrFault x → Along ds V (x, after_use T p (Err m)) (f (Err m'), after_use T' p (Err m'))
     go (Ok a) k = absurd k
     go (Err (stop.Ends (verdict.Undefined fault))) k = g m'
     go (Err (stop.Ends verdict.Indeterminate)) k = absurd k
@@ -101,7 +101,7 @@ by-answers {A = A} ds V f T T' p (Err m) (Err m') c s g h e = go (f (Err m)) (g 
 
 pub by-use : {A : Type 0} (ds : List Bool) (V : A → A → Type 0) (f : Result Tried Miss → Result A Stop) (T : Table) (p : Prov) (t : Test) → Allows ds T.pairs → Covers ds T.pairs
     → ((t t' : Tried) → Similar V (f (Ok t)) (f (Ok t'))) → ((m : Miss) → IsErrFault (f (Err m)))
-    → Along ds V (f (use_answer T p t), settled T p (use_answer T p t)) (f (use_answer (on_table ds T) p t), settled (on_table ds T) p (use_answer (on_table ds T) p t))
+    → Along ds V (f (use_answer T p t), after_use T p (use_answer T p t)) (f (use_answer (on_table ds T) p t), after_use (on_table ds T) p (use_answer (on_table ds T) p t))
 by-use ds V f T p t al c s g = by-answers ds V f T (on_table ds T) p (use_answer T p t) (use_answer (on_table ds T) p t) c s g (use-agrees ds T p t al) refl
 
 -- what is allowed later was allowed before

@@ -6,19 +6,19 @@ use Rattle.pv_inst.specs.declared.values.Test.TheVariants.{Code}
 use Rattle.pv_inst.specs.declared.values.Tried.{Tried}
 use Rattle.pv_inst.specs.declared.values.Miss.{Miss}
 use Rattle.pv_inst.specs.Table.{Table}
-use Rattle.pv_inst.specs.Use.{use_answer, settled}
+use Rattle.pv_inst.specs.Use.{use_answer, after_use}
 use Rattle.pv_object.specs.declared.values.Pointer.{Pointer}
 use Rattle.pv_object.specs.declared.values.Stop.{Stop}
 use Rattle.pv_object.specs.declared.values.Stop.TheVariants as stop
 use Rattle.pv_fault.specs.declared.verdict.Verdict.TheVariants as verdict
-use Rattle.pv_object.specs.Access.{chosen, is_null, range_stop}
+use Rattle.pv_object.specs.Access.{first_survivor, is_null, range_stop}
 use Rattle.pv_object.specs.Operations.{code_in, code_by, code}
 use Rattle.pv_object.specs.OperationParts.{code_at}
 use Rattle.pv_watch.specs.declared.event.What.{What}
 use Rattle.pv_world.specs.Worlds.{Worth, World, Wrong, with_table}
-use Rattle.pv_world.specs.Telling.{Told, telling, quiet, used, code_test}
+use Rattle.pv_world.specs.Telling.{Told, telling, no_telling, event_of_use, code_test}
 use Rattle.pv_world.specs.Doing.{Fails}
-use Rattle.pv_world.specs.Worths.{pointer_of, unplain, wrong_of}
+use Rattle.pv_world.specs.Worths.{pointer_of, why_not_set, wrong_of}
 use Rattle.pv_world.specs.Objects.{owner_of}
 use Rattle.pv_world.specs.Pointers.{found_in, found_by, finds}
 use Rattle.pv_prov.specs.declared.names.Prov.{Prov}
@@ -33,22 +33,22 @@ use Rattle.pv_exec.proofs.Settling.Worlds.{Fits}
 
 module _ (F : Type 0) (full : F) (ds : List Bool) where
   code-by : (T : Table) (p : Pointer) → Sound F T.instances T.pairs → Covers ds T.pairs → (r r' : Result Tried Miss)
-      → use_answer T p.prov (Code p.address) ≡ r → use_answer (on_table ds T) p.prov (Code p.address) ≡ r' → Agree ds r (settled T p.prov r) r' (settled (on_table ds T) p.prov r')
+      → use_answer T p.prov (Code p.address) ≡ r → use_answer (on_table ds T) p.prov (Code p.address) ≡ r' → Agree ds r (after_use T p.prov r) r' (after_use (on_table ds T) p.prov r')
       → Along ds SameFirst (code_at T p r) (code_at (on_table ds T) p r')
   code-by T p so c (Ok t) (Ok t') e f h =
       let g = start-hit T p.prov (Code p.address) p.address (code-fixes T.zap p.address) t e in
       let k = start-hit (on_table ds T) p.prov (Code p.address) p.address (code-fixes T.zap p.address) t' f in
-      let U = settled T p.prov (Ok t) in
-      let U' = settled (on_table ds T) p.prov (Ok t') in
-      subst (λ o. Along ds SameFirst (code_in o t, U) (code_in (chosen (stands (on_sides ds T.pairs) p.prov) t') t', U')) (sym g.is)
+      let U = after_use T p.prov (Ok t) in
+      let U' = after_use (on_table ds T) p.prov (Ok t') in
+      subst (λ o. Along ds SameFirst (code_in o t, U) (code_in (first_survivor (stands (on_sides ds T.pairs) p.prov) t') t', U')) (sym g.is)
       (subst (λ o. Along ds SameFirst (code_in (Some g.number) t, U) (code_in o t', U')) (sym k.is)
       (start-same F full ds T so p.prov p.address t t' g k, h.0, h.1, nearly ds U.pairs (settled-covers ds T p.prov (Ok t) c)))
   code-by T p so c (Ok t) (Err m') e f h =
-      lost ds SameFirst (code_by (stands T.pairs p.prov) (Ok t)) (settled T p.prov (Ok t)) (range_stop clause.Indirection m') (settled (on_table ds T) p.prov (Err m')) (range-fault clause.Indirection m') h
+      lost ds SameFirst (code_by (stands T.pairs p.prov) (Ok t)) (after_use T p.prov (Ok t)) (range_stop clause.Indirection m') (after_use (on_table ds T) p.prov (Err m')) (range-fault clause.Indirection m') h
   code-by T p so c (Err m) (Ok t') e f h = absurd h
   code-by T p so c (Err m) (Err m') e f h = go (range_stop clause.Indirection m) (range-fault clause.Indirection m)
     where
-      go : (y : Stop) → IsFault y → Along {A = ℕ × Tried} ds SameFirst (Err y, settled T p.prov (Err m)) (Err (range_stop clause.Indirection m'), settled (on_table ds T) p.prov (Err m'))
+      go : (y : Stop) → IsFault y → Along {A = ℕ × Tried} ds SameFirst (Err y, after_use T p.prov (Err m)) (Err (range_stop clause.Indirection m'), after_use (on_table ds T) p.prov (Err m'))
       go (stop.Ends (verdict.Undefined x)) k = range-fault clause.Indirection m'
       go (stop.Ends verdict.Indeterminate) k = absurd k
       go (stop.Ends verdict.Undecided) k = tt
@@ -75,16 +75,16 @@ module _ (F : Type 0) (full : F) (ds : List Bool) where
   found-tracks w w' p fits ((Ok r), T) ((Ok r'), T') e h =
       let V = with_table w T in
       let o = owner_of w r.0 in
-      subst (λ (v : World). Tracks ds (found_in V p fits o (used code_test r.1)) (found_in v p fits (owner_of w' r'.0) (used code_test r'.1))) (sym (λ i. with_table (e i) (h.2 i)))
-      (subst (λ (v : World). Tracks ds (found_in V p fits o (used code_test r.1)) (found_in (on_world ds V) p fits (owner_of v r'.0) (used code_test r'.1))) (sym e)
-      (subst (λ i. Tracks ds (found_in V p fits o (used code_test r.1)) (found_in (on_world ds V) p fits (owner_of w i) (used code_test r'.1))) (sym h.0)
-      (callee-tracks V p fits o (used code_test r.1) (used code_test r'.1) (fits o) refl h.1 h.3)))
+      subst (λ (v : World). Tracks ds (found_in V p fits o (event_of_use code_test r.1)) (found_in v p fits (owner_of w' r'.0) (event_of_use code_test r'.1))) (sym (λ i. with_table (e i) (h.2 i)))
+      (subst (λ (v : World). Tracks ds (found_in V p fits o (event_of_use code_test r.1)) (found_in (on_world ds V) p fits (owner_of v r'.0) (event_of_use code_test r'.1))) (sym e)
+      (subst (λ i. Tracks ds (found_in V p fits o (event_of_use code_test r.1)) (found_in (on_world ds V) p fits (owner_of w i) (event_of_use code_test r'.1))) (sym h.0)
+      (callee-tracks V p fits o (event_of_use code_test r.1) (event_of_use code_test r'.1) (fits o) refl h.1 h.3)))
   found-tracks w w' p fits ((Ok r), T) ((Err y'), T') e h =
-      callee-lost (with_table w T) p fits (owner_of w r.0) (used code_test r.1) (fits (owner_of w r.0)) refl (wrong_of y') (Some p.prov) (with_table w' T') quiet (fault-wrong y' h.0) h.1
+      callee-lost (with_table w T) p fits (owner_of w r.0) (event_of_use code_test r.1) (fits (owner_of w r.0)) refl (wrong_of y') (Some p.prov) (with_table w' T') no_telling (fault-wrong y' h.0) h.1
   found-tracks w w' p fits ((Err y), T) ((Ok r'), T') e h = ends-ok ds y T r' [] (found_by w' p fits (Ok r', T')) h
-  found-tracks w w' p fits ((Err y), T) ((Err y'), T') e h = ends-err (ℕ × Tried) ds y y' T [] (Some p.prov) (with_table w' T') quiet refl h
+  found-tracks w w' p fits ((Err y), T) ((Err y'), T') e h = ends-err (ℕ × Tried) ds y y' T [] (Some p.prov) (with_table w' T') no_telling refl h
 
   pub finds-track : (fits : Option ℕ → Bool) (v : Worth) (w : World) → Fits F ds w → Tracks ds (finds fits v w) (finds fits v (on_world ds w))
   finds-track fits v w f =
-      unless-tracks ds (unplain v) w _ _ f.1
+      unless-tracks ds (why_not_set v) w _ _ f.1
       (found-tracks w (on_world ds w) (pointer_of v) fits (code w.memory.table (pointer_of v)) (code (on_table ds w.memory.table) (pointer_of v)) refl (code-along w.memory.table (pointer_of v) f.0 f.1 f.2))

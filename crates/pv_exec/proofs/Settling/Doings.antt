@@ -8,7 +8,7 @@ use Rattle.pv_object.specs.declared.values.Stop.TheVariants as stop
 use Rattle.pv_fault.specs.declared.verdict.Verdict.TheVariants as verdict
 use Rattle.pv_world.specs.declared.failing.Blame.{Blame}
 use Rattle.pv_world.specs.Worlds.{Worth, World, Wrong, ByVerdict, Halts}
-use Rattle.pv_world.specs.Telling.{Told, quiet}
+use Rattle.pv_world.specs.Telling.{Told, no_telling}
 use Rattle.pv_world.specs.Doing.{Done, Answers, Fails, Breaks}
 use Rattle.pv_world.specs.Worths.{wrong_of, unless}
 use Rattle.pv_exec.proofs.Memory.Rows.{Leads}
@@ -130,4 +130,4 @@ fails-tracks ds y p p' w w' t t' e al = same-end ds y (pairs_of w) t t' p' w' e 
 
 pub unless-tracks : (ds : List Bool) (o : Option Wrong) (w : World) (d d' : Done) → Allows ds (pairs_of w) → Tracks ds d d' → Tracks ds (unless o w d) (unless o (on_world ds w) d')
 unless-tracks ds None w d d' al h = h
-unless-tracks ds (Some y) w d d' al h = fails-tracks ds y None None w (on_world ds w) quiet quiet refl al
+unless-tracks ds (Some y) w d d' al h = fails-tracks ds y None None w (on_world ds w) no_telling no_telling refl al

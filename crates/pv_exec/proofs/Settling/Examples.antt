@@ -13,7 +13,7 @@ use Rattle.pv_inst.specs.Table.{Table}
 use Rattle.pv_inst.specs.Use.{use_answer}
 use Rattle.pv_inst.specs.TwoPointers.{same_answer, miss_of_two}
 use Rattle.pv_world.specs.declared.got.Shape.TheVariants as shape
-use Rattle.pv_shadow.specs.Bytes.{read}
+use Rattle.pv_shadow.specs.Bytes.{bytes_from}
 use Rattle.pv_world.specs.Worlds.{World}
 use Rattle.pv_world.specs.Doing.{Done, Answers, Fails, Breaks}
 use Rattle.pv_world.specs.Worths.{pointer}
@@ -88,7 +88,7 @@ answers (Fails y p w t) = false
 answers (Breaks y b w t) = false
 
 late-reads : (b : Setting) → answers (reads b no_bytes (pointer (record { address = 65540; prov = Pair 1 })) [] border) ≡ true
-unfolding read
+unfolding bytes_from
 late-reads b = refl
 
 high-stops : (b : Setting) → answers (reads b no_bytes (pointer (record { address = 65540; prov = Pair 1 })) [] (on_world (true ∷ []) border)) ≡ false

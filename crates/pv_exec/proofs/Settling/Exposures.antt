@@ -11,7 +11,7 @@ use Rattle.pv_prov.specs.NameParts.{those_kept}
 use Rattle.pv_inst.specs.declared.values.Instance.{Instance}
 use Rattle.pv_inst.specs.Table.{Table, instance_at, with_instance}
 use Rattle.pv_inst.specs.Exposure.{expose, expose_one, exposing}
-use Rattle.pv_inst.specs.ExposureParts.{expose_two, shown}
+use Rattle.pv_inst.specs.ExposureParts.{expose_two, exposure_from}
 use Rattle.pv_inst.specs.WellFormed.{Meet, HasMet}
 use Rattle.pv_shadow.specs.declared.byte.Byte.{Byte}
 use Rattle.pv_object.specs.Loading.{exposed_by}
@@ -37,7 +37,7 @@ cond-quiet false exposed T U e = refl
 
 quiet-at : (T : Table) (i : ℕ) (o : Option Instance) → instance_at T.instances i ≡ o → IsShown T.instances (Some i) → exposing T i o ≡ T
 quiet-at T i None e h = refl
-quiet-at T i (Some x) e h = cond-quiet x.live x.exposed T (record T { instances = with_instance T.instances i (shown x); pending = T.pending ++ i ∷ [] }) (h x e)
+quiet-at T i (Some x) e h = cond-quiet x.live x.exposed T (record T { instances = with_instance T.instances i (exposure_from x); pending = T.pending ++ i ∷ [] }) (h x e)
 
 quiet-one : (T : Table) (o : Option ℕ) → IsShown T.instances o → expose_one T o ≡ T
 quiet-one T None h = refl
@@ -82,7 +82,7 @@ cond-on ds false T xs is = refl
 
 exposing-on : (ds : List Bool) (T : Table) (i : ℕ) (o : Option Instance) → exposing (on_table ds T) i o ≡ on_table ds (exposing T i o)
 exposing-on ds T i None = refl
-exposing-on ds T i (Some x) = cond-on ds (x.live && not x.exposed) T (with_instance T.instances i (shown x)) (T.pending ++ i ∷ [])
+exposing-on ds T i (Some x) = cond-on ds (x.live && not x.exposed) T (with_instance T.instances i (exposure_from x)) (T.pending ++ i ∷ [])
 
 module _ {F : Type 0} where
   pub expose-on : (ds : List Bool) (T : Table) (p : Prov) → Sound F T.instances T.pairs → expose (on_table ds T) p ≡ on_table ds (expose T p)
@@ -102,7 +102,7 @@ one-pairs : (T : Table) (o : Option ℕ) → (expose_one T o).pairs ≡ T.pairs
 one-pairs T None = refl
 one-pairs T (Some i) = at (instance_at T.instances i)
   where
-    by : (b : Bool) (x : Instance) → (cond b (record T { instances = with_instance T.instances i (shown x); pending = T.pending ++ i ∷ [] }) T).pairs ≡ T.pairs
+    by : (b : Bool) (x : Instance) → (cond b (record T { instances = with_instance T.instances i (exposure_from x); pending = T.pending ++ i ∷ [] }) T).pairs ≡ T.pairs
     by true x = refl
     by false x = refl
 

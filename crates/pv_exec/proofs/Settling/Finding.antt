@@ -8,7 +8,7 @@ use Rattle.std.proofs.lemmas.List.Quantifiers.{position-Some}
 use Rattle.pv_prov.specs.declared.pairs.Twin.{Twin}
 use Rattle.pv_prov.specs.declared.names.Prov.{Prov}
 use Rattle.pv_prov.specs.declared.names.Prov.TheVariants.{Inst, Pair}
-use Rattle.pv_prov.specs.Names.{stands_of, twin_at, added, nobody, alone}
+use Rattle.pv_prov.specs.Names.{stands_of, twin_at, with_twin, nobody, one_candidate}
 use Rattle.pv_prov.specs.NameParts.{those_kept, keeping}
 use Rattle.pv_inst.specs.declared.values.Instance.{Instance}
 use Rattle.pv_inst.specs.declared.values.Kind.TheVariants.{Heap}
@@ -16,7 +16,7 @@ use Rattle.pv_inst.specs.declared.values.Test.TheVariants.{Live}
 use Rattle.pv_inst.specs.declared.values.Tried.{Tried}
 use Rattle.pv_inst.specs.declared.values.Miss.TheVariants.{Ended}
 use Rattle.pv_inst.specs.Table.{Table, instance_at}
-use Rattle.pv_inst.specs.Use.{survives, any_survives, judged, if_two, use_answer, settled}
+use Rattle.pv_inst.specs.Use.{survives, any_survives, test_answer, if_two, use_answer, after_use}
 use Rattle.pv_inst.specs.SameParts.{made_passes}
 use Rattle.pv_inst.specs.Finding.{reaches, begins, number_of, both_found, found_at, name_by, table_by, name_at, after_name, fitting}
 use Rattle.pv_exec.proofs.Settling.Sides.{on_table, Allows, Covers, Nearly, nearly, length-sides, added-on, added-allows, added-nearly}
@@ -91,7 +91,7 @@ last-slice (u ∷ ts) t = last-slice ts t
 
 -- the live test of a name that was just found passes, and keeps all: so nothing changes
 abbrev Passes : Table → Prov → Type 0
-Passes T p = (tried : Tried) × (use_answer T p Live ≡ Ok tried) × (settled T p (Ok tried) ≡ T)
+Passes T p = (tried : Tried) × (use_answer T p Live ≡ Ok tried) × (after_use T p (Ok tried) ≡ T)
 
 set-same : (ts : List Twin) (k : ℕ) (t : Twin) → slice_get ts k ≡ Some t → set ts k t ≡ ts
 set-same [] k t e = refl
@@ -99,26 +99,26 @@ set-same (v ∷ ts) zero t e = ap (λ x. x ∷ ts) (sym (same_Some v t e))
 set-same (v ∷ ts) (suc k) t e = ap (λ xs. v ∷ xs) (set-same ts k t e)
 
 alone-passes : (T : Table) (i : ℕ) → survives T.zap T.instances (Some i) Live ≡ true → Passes T (Inst i)
-alone-passes T i e = (record { pair = None; low = true; high = false }, ap (λ b. cond (b || false) (Ok (record { pair = None; low = b; high = false })) (Err (cond (any_survives true T.instances (alone i) Live) Ended Ended))) e, refl)
+alone-passes T i e = (record { pair = None; low = true; high = false }, ap (λ b. cond (b || false) (Ok (record { pair = None; low = b; high = false })) (Err (cond (any_survives true T.instances (one_candidate i) Live) Ended Ended))) e, refl)
 
 abbrev new_pair : ℕ → ℕ → Twin
 new_pair i j = record { low = i; high = j; keeps_low = true; keeps_high = true }
 
 pair-by : (T : Table) (k i j : ℕ) (o : Option Twin) → twin_at T.pairs k ≡ o → o ≡ Some (new_pair i j) → survives T.zap T.instances (Some i) Live ≡ true → survives T.zap T.instances (Some j) Live ≡ true
-    → (tried : Tried) × (judged T.zap T.instances (stands_of o) (if_two k (stands_of o)) Live ≡ Ok tried) × (record T { pairs = keeping o T.pairs k tried.low tried.high } ≡ T)
+    → (tried : Tried) × (test_answer T.zap T.instances (stands_of o) (if_two k (stands_of o)) Live ≡ Ok tried) × (record T { pairs = keeping o T.pairs k tried.low tried.high } ≡ T)
 pair-by T k i j None e f l h = absurd (none-some (new_pair i j) f)
 pair-by T k i j (Some t) e f l h =
     let same : t ≡ new_pair i j = same_Some t (new_pair i j) f in
-    subst (λ (w : Twin). (tried : Tried) × (judged T.zap T.instances (stands_of (Some w)) (if_two k (stands_of (Some w))) Live ≡ Ok tried) × (record T { pairs = keeping (Some w) T.pairs k tried.low tried.high } ≡ T)) (sym same) (
+    subst (λ (w : Twin). (tried : Tried) × (test_answer T.zap T.instances (stands_of (Some w)) (if_two k (stands_of (Some w))) Live ≡ Ok tried) × (record T { pairs = keeping (Some w) T.pairs k tried.low tried.high } ≡ T)) (sym same) (
       record { pair = Some k; low = true; high = true },
       ap (λ a. cond (a || survives T.zap T.instances (Some j) Live) (Ok (record { pair = Some k; low = a; high = survives T.zap T.instances (Some j) Live })) (Err (cond (any_survives true T.instances (those_kept (new_pair i j)) Live) Ended Ended))) l
           ∙ ap (λ b. Ok (record { pair = Some k; low = true; high = b })) h,
       ap (λ ts. record T { pairs = ts }) (set-same T.pairs (k - 1) (new_pair i j) (e ∙ f)),
     )
 
-pair-passes : (T : Table) (i j : ℕ) → survives T.zap T.instances (Some i) Live ≡ true → survives T.zap T.instances (Some j) Live ≡ true → Passes (record T { pairs = added T.pairs i j }) (Pair (length T.pairs + 1))
+pair-passes : (T : Table) (i j : ℕ) → survives T.zap T.instances (Some i) Live ≡ true → survives T.zap T.instances (Some j) Live ≡ true → Passes (record T { pairs = with_twin T.pairs i j }) (Pair (length T.pairs + 1))
 pair-passes T i j l h =
-    let U = record T { pairs = added T.pairs i j } in
+    let U = record T { pairs = with_twin T.pairs i j } in
     let n : length T.pairs + 1 - 1 ≡ length T.pairs = omega arith in
     let there : twin_at U.pairs (length T.pairs + 1) ≡ Some (new_pair i j) = ap (slice_get U.pairs) n ∙ last-slice T.pairs (new_pair i j) in
     pair-by U (length T.pairs + 1) i j (twin_at U.pairs (length T.pairs + 1)) refl there l h

@@ -10,13 +10,13 @@ use Rattle.pv_object.specs.declared.values.Pointer.{Pointer}
 use Rattle.pv_object.specs.declared.values.Reach.{Reach}
 use Rattle.pv_object.specs.declared.values.Value.TheVariants as value
 use Rattle.pv_object.specs.Access.{fault}
-use Rattle.pv_object.specs.Copying.{with_bytes, copied}
+use Rattle.pv_object.specs.Copying.{with_bytes, after_copy}
 use Rattle.pv_libc.specs.declared.values.Note.{Note}
 use Rattle.pv_libc.specs.declared.values.Reply.{Reply}
 use Rattle.pv_libc.specs.declared.values.Reply.TheVariants as reply
-use Rattle.pv_libc.specs.Steps.{Now, Did, done, halted, noted, next, reached, in_memory}
+use Rattle.pv_libc.specs.Steps.{Now, Did, answer_now, stop_now, with_more_notes, next, reach_for, in_memory}
 use Rattle.pv_libc.specs.Characters.{character_at, characters_from, most, string_at}
-use Rattle.pv_libc.specs.Blocks.{plain_byte, filled, share, answers, copy, memset, difference, memcmp, sign_of}
+use Rattle.pv_libc.specs.Blocks.{plain_byte, after_filling, share, answers, copy, memset, difference, memcmp, sign_of}
 use Rattle.pv_libc.specs.Strings.{strlen, compared_from, strcpy}
 use Rattle.pv_libc.specs.StringParts.{compared_by, strcmp}
 use Rattle.pv_exec.proofs.Memory.Rows.{Leads, led-itself}
@@ -42,72 +42,72 @@ module _ (F : Type 0) (full : F) (ds : List Bool) where
   pub copy-goes : (apart : Bool) (p q : Pointer) (n n' m m' : Note) (k : ℕ)
       → Goes F ds Reply Equal (copy apart (record { pointer = p; stopped = n }) (record { pointer = q; stopped = m }) k) (copy apart (record { pointer = p; stopped = n' }) (record { pointer = q; stopped = m' }) k)
   copy-goes apart p q n n' m m' k =
-      next-goes F ds (Reaches k) Equal (same-reach F ds k) (reached Text true (record { pointer = p; stopped = n }) k) (reached Text true (record { pointer = p; stopped = n' }) k)
-      (λ t T. next (reached Text false (record { pointer = q; stopped = m }) k T) (λ f U. cond (apart && share p.address q.address k) (halted (fault clause.MemcpyOverlap reason.Overlap) (noted (n ∷ []) U)) (answers (record { pointer = p; stopped = n }) (in_memory U (copied U.memory t.address f.address k)))))
-      (λ t T. next (reached Text false (record { pointer = q; stopped = m' }) k T) (λ f U. cond (apart && share p.address q.address k) (halted (fault clause.MemcpyOverlap reason.Overlap) (noted (n' ∷ []) U)) (answers (record { pointer = p; stopped = n' }) (in_memory U (copied U.memory t.address f.address k)))))
+      next-goes F ds (Reaches k) Equal (same-reach F ds k) (reach_for Text true (record { pointer = p; stopped = n }) k) (reach_for Text true (record { pointer = p; stopped = n' }) k)
+      (λ t T. next (reach_for Text false (record { pointer = q; stopped = m }) k T) (λ f U. cond (apart && share p.address q.address k) (stop_now (fault clause.MemcpyOverlap reason.Overlap) (with_more_notes (n ∷ []) U)) (answers (record { pointer = p; stopped = n }) (in_memory U (after_copy U.memory t.address f.address k)))))
+      (λ t T. next (reach_for Text false (record { pointer = q; stopped = m' }) k T) (λ f U. cond (apart && share p.address q.address k) (stop_now (fault clause.MemcpyOverlap reason.Overlap) (with_more_notes (n' ∷ []) U)) (answers (record { pointer = p; stopped = n' }) (in_memory U (after_copy U.memory t.address f.address k)))))
       (reached-goes F ds Text true p n n' k)
       (λ t t' h.
-      next-goes F ds (Reaches k) Equal (same-reach F ds k) (reached Text false (record { pointer = q; stopped = m }) k) (reached Text false (record { pointer = q; stopped = m' }) k)
-      (λ f U. cond (apart && share p.address q.address k) (halted (fault clause.MemcpyOverlap reason.Overlap) (noted (n ∷ []) U)) (answers (record { pointer = p; stopped = n }) (in_memory U (copied U.memory t.address f.address k))))
-      (λ f U. cond (apart && share p.address q.address k) (halted (fault clause.MemcpyOverlap reason.Overlap) (noted (n' ∷ []) U)) (answers (record { pointer = p; stopped = n' }) (in_memory U (copied U.memory t'.address f.address k))))
+      next-goes F ds (Reaches k) Equal (same-reach F ds k) (reach_for Text false (record { pointer = q; stopped = m }) k) (reach_for Text false (record { pointer = q; stopped = m' }) k)
+      (λ f U. cond (apart && share p.address q.address k) (stop_now (fault clause.MemcpyOverlap reason.Overlap) (with_more_notes (n ∷ []) U)) (answers (record { pointer = p; stopped = n }) (in_memory U (after_copy U.memory t.address f.address k))))
+      (λ f U. cond (apart && share p.address q.address k) (stop_now (fault clause.MemcpyOverlap reason.Overlap) (with_more_notes (n' ∷ []) U)) (answers (record { pointer = p; stopped = n' }) (in_memory U (after_copy U.memory t'.address f.address k))))
       (reached-goes F ds Text false q m m' k)
       (λ f f' g.
-      either-goes F ds Equal (apart && share p.address q.address k) (λ U. halted (fault clause.MemcpyOverlap reason.Overlap) (noted (n ∷ []) U)) (λ U. halted (fault clause.MemcpyOverlap reason.Overlap) (noted (n' ∷ []) U))
-      (λ U. answers (record { pointer = p; stopped = n }) (in_memory U (copied U.memory t.address f.address k))) (λ U. answers (record { pointer = p; stopped = n' }) (in_memory U (copied U.memory t'.address f'.address k)))
+      either-goes F ds Equal (apart && share p.address q.address k) (λ U. stop_now (fault clause.MemcpyOverlap reason.Overlap) (with_more_notes (n ∷ []) U)) (λ U. stop_now (fault clause.MemcpyOverlap reason.Overlap) (with_more_notes (n' ∷ []) U))
+      (λ U. answers (record { pointer = p; stopped = n }) (in_memory U (after_copy U.memory t.address f.address k))) (λ U. answers (record { pointer = p; stopped = n' }) (in_memory U (after_copy U.memory t'.address f'.address k)))
       (record { leads = λ S. led-itself; covers = λ S c. c; walks = λ S ns so al c. tt })
-      (bytes-goes (reply.Value (value.Pointer p)) (λ U. answers (record { pointer = p; stopped = n }) (in_memory U (copied U.memory t.address f.address k))) (λ U. answers (record { pointer = p; stopped = n' }) (in_memory U (copied U.memory t'.address f'.address k)))
-      (λ S. refl) (λ S. refl) (λ S. refl) (λ S ns i. copied (on_memory ds S.memory) (h.0 i) (g.0 i) k))))
+      (bytes-goes (reply.Value (value.Pointer p)) (λ U. answers (record { pointer = p; stopped = n }) (in_memory U (after_copy U.memory t.address f.address k))) (λ U. answers (record { pointer = p; stopped = n' }) (in_memory U (after_copy U.memory t'.address f'.address k)))
+      (λ S. refl) (λ S. refl) (λ S. refl) (λ S ns i. after_copy (on_memory ds S.memory) (h.0 i) (g.0 i) k))))
 
   pub memset-goes : (p : Pointer) (n n' : Note) (c : ℤ) (k : ℕ) → Goes F ds Reply Equal (memset (record { pointer = p; stopped = n }) c k) (memset (record { pointer = p; stopped = n' }) c k)
   memset-goes p n n' c k =
-      next-goes F ds (Reaches k) Equal (same-reach F ds k) (reached Text true (record { pointer = p; stopped = n }) k) (reached Text true (record { pointer = p; stopped = n' }) k)
-      (λ r T. answers (record { pointer = p; stopped = n }) (in_memory T (filled T.memory r.address k (bits_of UChar c)))) (λ r T. answers (record { pointer = p; stopped = n' }) (in_memory T (filled T.memory r.address k (bits_of UChar c))))
+      next-goes F ds (Reaches k) Equal (same-reach F ds k) (reach_for Text true (record { pointer = p; stopped = n }) k) (reach_for Text true (record { pointer = p; stopped = n' }) k)
+      (λ r T. answers (record { pointer = p; stopped = n }) (in_memory T (after_filling T.memory r.address k (bits_of UChar c)))) (λ r T. answers (record { pointer = p; stopped = n' }) (in_memory T (after_filling T.memory r.address k (bits_of UChar c))))
       (reached-goes F ds Text true p n n' k)
-      (λ r r' h. bytes-goes (reply.Value (value.Pointer p)) (λ T. answers (record { pointer = p; stopped = n }) (in_memory T (filled T.memory r.address k (bits_of UChar c)))) (λ T. answers (record { pointer = p; stopped = n' }) (in_memory T (filled T.memory r'.address k (bits_of UChar c))))
-      (λ S. refl) (λ S. refl) (λ S. refl) (λ S ns i. filled (on_memory ds S.memory) (h.0 i) k (bits_of UChar c)))
+      (λ r r' h. bytes-goes (reply.Value (value.Pointer p)) (λ T. answers (record { pointer = p; stopped = n }) (in_memory T (after_filling T.memory r.address k (bits_of UChar c)))) (λ T. answers (record { pointer = p; stopped = n' }) (in_memory T (after_filling T.memory r'.address k (bits_of UChar c))))
+      (λ S. refl) (λ S. refl) (λ S. refl) (λ S ns i. after_filling (on_memory ds S.memory) (h.0 i) k (bits_of UChar c)))
 
   pub memcmp-goes : (p q : Pointer) (n n' m m' : Note) (k : ℕ) → Goes F ds Reply Equal (memcmp (record { pointer = p; stopped = n }) (record { pointer = q; stopped = m }) k) (memcmp (record { pointer = p; stopped = n' }) (record { pointer = q; stopped = m' }) k)
   memcmp-goes p q n n' m m' k =
-      next-goes F ds (Reaches k) Equal (same-reach F ds k) (reached Text false (record { pointer = p; stopped = n }) k) (reached Text false (record { pointer = p; stopped = n' }) k)
-      (λ l T. next (reached Text false (record { pointer = q; stopped = m }) k T) (λ r U. next (characters_from k (record { pointer = p; stopped = n }) l.address [] U) (λ ls V. next (characters_from k (record { pointer = q; stopped = m }) r.address [] V) (λ rs W. done (reply.Value (value.Int (difference ls rs))) W))))
-      (λ l T. next (reached Text false (record { pointer = q; stopped = m' }) k T) (λ r U. next (characters_from k (record { pointer = p; stopped = n' }) l.address [] U) (λ ls V. next (characters_from k (record { pointer = q; stopped = m' }) r.address [] V) (λ rs W. done (reply.Value (value.Int (difference ls rs))) W))))
+      next-goes F ds (Reaches k) Equal (same-reach F ds k) (reach_for Text false (record { pointer = p; stopped = n }) k) (reach_for Text false (record { pointer = p; stopped = n' }) k)
+      (λ l T. next (reach_for Text false (record { pointer = q; stopped = m }) k T) (λ r U. next (characters_from k (record { pointer = p; stopped = n }) l.address [] U) (λ ls V. next (characters_from k (record { pointer = q; stopped = m }) r.address [] V) (λ rs W. answer_now (reply.Value (value.Int (difference ls rs))) W))))
+      (λ l T. next (reach_for Text false (record { pointer = q; stopped = m' }) k T) (λ r U. next (characters_from k (record { pointer = p; stopped = n' }) l.address [] U) (λ ls V. next (characters_from k (record { pointer = q; stopped = m' }) r.address [] V) (λ rs W. answer_now (reply.Value (value.Int (difference ls rs))) W))))
       (reached-goes F ds Text false p n n' k)
       (λ l l' h.
-      next-goes F ds (Reaches k) Equal (same-reach F ds k) (reached Text false (record { pointer = q; stopped = m }) k) (reached Text false (record { pointer = q; stopped = m' }) k)
-      (λ r U. next (characters_from k (record { pointer = p; stopped = n }) l.address [] U) (λ ls V. next (characters_from k (record { pointer = q; stopped = m }) r.address [] V) (λ rs W. done (reply.Value (value.Int (difference ls rs))) W)))
-      (λ r U. next (characters_from k (record { pointer = p; stopped = n' }) l'.address [] U) (λ ls V. next (characters_from k (record { pointer = q; stopped = m' }) r.address [] V) (λ rs W. done (reply.Value (value.Int (difference ls rs))) W)))
+      next-goes F ds (Reaches k) Equal (same-reach F ds k) (reach_for Text false (record { pointer = q; stopped = m }) k) (reach_for Text false (record { pointer = q; stopped = m' }) k)
+      (λ r U. next (characters_from k (record { pointer = p; stopped = n }) l.address [] U) (λ ls V. next (characters_from k (record { pointer = q; stopped = m }) r.address [] V) (λ rs W. answer_now (reply.Value (value.Int (difference ls rs))) W)))
+      (λ r U. next (characters_from k (record { pointer = p; stopped = n' }) l'.address [] U) (λ ls V. next (characters_from k (record { pointer = q; stopped = m' }) r.address [] V) (λ rs W. answer_now (reply.Value (value.Int (difference ls rs))) W)))
       (reached-goes F ds Text false q m m' k)
       (λ r r' g.
       subst (λ a. Goes F ds Reply Equal (rest r l.address) (rest' r' a)) (sym h.0)
-      (subst (λ a. Goes F ds Reply Equal (rest r l.address) (λ U. next (characters_from k (record { pointer = p; stopped = n' }) l.address [] U) (λ ls V. next (characters_from k (record { pointer = q; stopped = m' }) a [] V) (λ rs W. done (reply.Value (value.Int (difference ls rs))) W)))) (sym g.0)
+      (subst (λ a. Goes F ds Reply Equal (rest r l.address) (λ U. next (characters_from k (record { pointer = p; stopped = n' }) l.address [] U) (λ ls V. next (characters_from k (record { pointer = q; stopped = m' }) a [] V) (λ rs W. answer_now (reply.Value (value.Int (difference ls rs))) W)))) (sym g.0)
       (next-goes F ds Equal Equal (λ a. refl) (characters_from k (record { pointer = p; stopped = n }) l.address []) (characters_from k (record { pointer = p; stopped = n' }) l.address [])
-      (λ ls V. next (characters_from k (record { pointer = q; stopped = m }) r.address [] V) (λ rs W. done (reply.Value (value.Int (difference ls rs))) W)) (λ ls V. next (characters_from k (record { pointer = q; stopped = m' }) r.address [] V) (λ rs W. done (reply.Value (value.Int (difference ls rs))) W))
+      (λ ls V. next (characters_from k (record { pointer = q; stopped = m }) r.address [] V) (λ rs W. answer_now (reply.Value (value.Int (difference ls rs))) W)) (λ ls V. next (characters_from k (record { pointer = q; stopped = m' }) r.address [] V) (λ rs W. answer_now (reply.Value (value.Int (difference ls rs))) W))
       (row-goes F ds k p n n' l.address [])
       (λ ls ls' e.
-      subst (λ x. Goes F ds Reply Equal (λ V. next (characters_from k (record { pointer = q; stopped = m }) r.address [] V) (λ rs W. done (reply.Value (value.Int (difference ls rs))) W)) (λ V. next (characters_from k (record { pointer = q; stopped = m' }) r.address [] V) (λ rs W. done (reply.Value (value.Int (difference x rs))) W))) (sym e)
+      subst (λ x. Goes F ds Reply Equal (λ V. next (characters_from k (record { pointer = q; stopped = m }) r.address [] V) (λ rs W. answer_now (reply.Value (value.Int (difference ls rs))) W)) (λ V. next (characters_from k (record { pointer = q; stopped = m' }) r.address [] V) (λ rs W. answer_now (reply.Value (value.Int (difference x rs))) W))) (sym e)
       (next-goes F ds Equal Equal (λ a. refl) (characters_from k (record { pointer = q; stopped = m }) r.address []) (characters_from k (record { pointer = q; stopped = m' }) r.address [])
-      (λ rs W. done (reply.Value (value.Int (difference ls rs))) W) (λ rs W. done (reply.Value (value.Int (difference ls rs))) W)
+      (λ rs W. answer_now (reply.Value (value.Int (difference ls rs))) W) (λ rs W. answer_now (reply.Value (value.Int (difference ls rs))) W)
       (row-goes F ds k q m m' r.address [])
       (λ rs rs' f. done-goes F ds Equal (reply.Value (value.Int (difference ls rs))) (reply.Value (value.Int (difference ls rs'))) (ap (λ x. reply.Value (value.Int (difference ls x))) f))))))))
     where
       rest : Reach → ℕ → Now → Did Reply
-      rest r a U = next (characters_from k (record { pointer = p; stopped = n }) a [] U) (λ ls V. next (characters_from k (record { pointer = q; stopped = m }) r.address [] V) (λ rs W. done (reply.Value (value.Int (difference ls rs))) W))
+      rest r a U = next (characters_from k (record { pointer = p; stopped = n }) a [] U) (λ ls V. next (characters_from k (record { pointer = q; stopped = m }) r.address [] V) (λ rs W. answer_now (reply.Value (value.Int (difference ls rs))) W))
 
       rest' : Reach → ℕ → Now → Did Reply
-      rest' r a U = next (characters_from k (record { pointer = p; stopped = n' }) a [] U) (λ ls V. next (characters_from k (record { pointer = q; stopped = m' }) r.address [] V) (λ rs W. done (reply.Value (value.Int (difference ls rs))) W))
+      rest' r a U = next (characters_from k (record { pointer = p; stopped = n' }) a [] U) (λ ls V. next (characters_from k (record { pointer = q; stopped = m' }) r.address [] V) (λ rs W. answer_now (reply.Value (value.Int (difference ls rs))) W))
 
   -- strings
   pub strlen-goes : (p : Pointer) (n n' : Note) → Goes F ds Reply Equal (strlen (record { pointer = p; stopped = n })) (strlen (record { pointer = p; stopped = n' }))
   strlen-goes p n n' =
       next-goes F ds Equal Equal (λ a. refl) (string_at Text (record { pointer = p; stopped = n })) (string_at Text (record { pointer = p; stopped = n' }))
-      (λ s T. done (reply.Value (value.Int (pos (length s)))) T) (λ s T. done (reply.Value (value.Int (pos (length s)))) T)
+      (λ s T. answer_now (reply.Value (value.Int (pos (length s)))) T) (λ s T. answer_now (reply.Value (value.Int (pos (length s)))) T)
       (text-goes F ds Text p n n') (λ s s' e. done-goes F ds Equal (reply.Value (value.Int (pos (length s)))) (reply.Value (value.Int (pos (length s')))) (ap (λ x. reply.Value (value.Int (pos (length x)))) e))
 
   by-goes : (a b : ℕ) (f f' : Now → Did Reply) → Goes F ds Reply Equal f f' → Goes F ds Reply Equal (λ S. compared_by a b S (f S)) (λ S. compared_by a b S (f' S))
   by-goes a b f f' h =
-      either-goes F ds Equal (not (eqb a b)) (done (reply.Value (value.Int (sign_of a b)))) (done (reply.Value (value.Int (sign_of a b)))) (λ S. cond (eqb a 0) (done (reply.Value (value.Int (pos 0))) S) (f S)) (λ S. cond (eqb a 0) (done (reply.Value (value.Int (pos 0))) S) (f' S))
+      either-goes F ds Equal (not (eqb a b)) (answer_now (reply.Value (value.Int (sign_of a b)))) (answer_now (reply.Value (value.Int (sign_of a b)))) (λ S. cond (eqb a 0) (answer_now (reply.Value (value.Int (pos 0))) S) (f S)) (λ S. cond (eqb a 0) (answer_now (reply.Value (value.Int (pos 0))) S) (f' S))
       (done-goes F ds Equal (reply.Value (value.Int (sign_of a b))) (reply.Value (value.Int (sign_of a b))) refl)
-      (either-goes F ds Equal (eqb a 0) (done (reply.Value (value.Int (pos 0)))) (done (reply.Value (value.Int (pos 0)))) f f' (done-goes F ds Equal (reply.Value (value.Int (pos 0))) (reply.Value (value.Int (pos 0))) refl) h)
+      (either-goes F ds Equal (eqb a 0) (answer_now (reply.Value (value.Int (pos 0)))) (answer_now (reply.Value (value.Int (pos 0)))) f f' (done-goes F ds Equal (reply.Value (value.Int (pos 0))) (reply.Value (value.Int (pos 0))) refl) h)
 
   pub compared-goes : (k : ℕ) (p q : Pointer) (n n' m m' : Note) (i : ℕ) → Goes F ds Reply Equal (compared_from k (record { pointer = p; stopped = n }) (record { pointer = q; stopped = m }) i) (compared_from k (record { pointer = p; stopped = n' }) (record { pointer = q; stopped = m' }) i)
   compared-goes zero p q n n' m m' i = far-goes F ds Equal Text p n n'
@@ -136,18 +136,18 @@ module _ (F : Type 0) (full : F) (ds : List Bool) where
     where
       behind : Note → List ℕ → Now → Did Reply
       behind n s T =
-          next (reached Text true (record { pointer = p; stopped = n }) (length s + 1) T) (λ t U.
-          cond (share p.address q.address (length s + 1)) (halted (fault clause.StrcpyOverlap reason.Overlap) (noted (n ∷ []) U))
+          next (reach_for Text true (record { pointer = p; stopped = n }) (length s + 1) T) (λ t U.
+          cond (share p.address q.address (length s + 1)) (stop_now (fault clause.StrcpyOverlap reason.Overlap) (with_more_notes (n ∷ []) U))
           (answers (record { pointer = p; stopped = n }) (in_memory U (with_bytes U.memory t.address (map plain_byte (s ++ 0 ∷ []))))))
 
       behind-goes : (s : List ℕ) → Goes F ds Reply Equal (behind n s) (behind n' s)
       behind-goes s =
-          next-goes F ds (Reaches (length s + 1)) Equal (same-reach F ds (length s + 1)) (reached Text true (record { pointer = p; stopped = n }) (length s + 1)) (reached Text true (record { pointer = p; stopped = n' }) (length s + 1))
-          (λ t U. cond (share p.address q.address (length s + 1)) (halted (fault clause.StrcpyOverlap reason.Overlap) (noted (n ∷ []) U)) (answers (record { pointer = p; stopped = n }) (in_memory U (with_bytes U.memory t.address (map plain_byte (s ++ 0 ∷ []))))))
-          (λ t U. cond (share p.address q.address (length s + 1)) (halted (fault clause.StrcpyOverlap reason.Overlap) (noted (n' ∷ []) U)) (answers (record { pointer = p; stopped = n' }) (in_memory U (with_bytes U.memory t.address (map plain_byte (s ++ 0 ∷ []))))))
+          next-goes F ds (Reaches (length s + 1)) Equal (same-reach F ds (length s + 1)) (reach_for Text true (record { pointer = p; stopped = n }) (length s + 1)) (reach_for Text true (record { pointer = p; stopped = n' }) (length s + 1))
+          (λ t U. cond (share p.address q.address (length s + 1)) (stop_now (fault clause.StrcpyOverlap reason.Overlap) (with_more_notes (n ∷ []) U)) (answers (record { pointer = p; stopped = n }) (in_memory U (with_bytes U.memory t.address (map plain_byte (s ++ 0 ∷ []))))))
+          (λ t U. cond (share p.address q.address (length s + 1)) (stop_now (fault clause.StrcpyOverlap reason.Overlap) (with_more_notes (n' ∷ []) U)) (answers (record { pointer = p; stopped = n' }) (in_memory U (with_bytes U.memory t.address (map plain_byte (s ++ 0 ∷ []))))))
           (reached-goes F ds Text true p n n' (length s + 1))
           (λ t t' h.
-          either-goes F ds Equal (share p.address q.address (length s + 1)) (λ U. halted (fault clause.StrcpyOverlap reason.Overlap) (noted (n ∷ []) U)) (λ U. halted (fault clause.StrcpyOverlap reason.Overlap) (noted (n' ∷ []) U))
+          either-goes F ds Equal (share p.address q.address (length s + 1)) (λ U. stop_now (fault clause.StrcpyOverlap reason.Overlap) (with_more_notes (n ∷ []) U)) (λ U. stop_now (fault clause.StrcpyOverlap reason.Overlap) (with_more_notes (n' ∷ []) U))
           (λ U. answers (record { pointer = p; stopped = n }) (in_memory U (with_bytes U.memory t.address (map plain_byte (s ++ 0 ∷ []))))) (λ U. answers (record { pointer = p; stopped = n' }) (in_memory U (with_bytes U.memory t'.address (map plain_byte (s ++ 0 ∷ [])))))
           (record { leads = λ S. led-itself; covers = λ S c. c; walks = λ S ns so al c. tt })
           (bytes-goes (reply.Value (value.Pointer p)) (λ U. answers (record { pointer = p; stopped = n }) (in_memory U (with_bytes U.memory t.address (map plain_byte (s ++ 0 ∷ []))))) (λ U. answers (record { pointer = p; stopped = n' }) (in_memory U (with_bytes U.memory t'.address (map plain_byte (s ++ 0 ∷ [])))))

@@ -15,7 +15,7 @@ use Rattle.pv_inst.specs.declared.values.Tried.{Tried}
 use Rattle.pv_inst.specs.declared.values.Miss.{Miss}
 use Rattle.pv_inst.specs.declared.values.Miss.TheVariants.{Empty as NoName, Ended, Apart, Undecided, Outside, Block as NoBlock}
 use Rattle.pv_inst.specs.Table.{Table, IsMadeIn}
-use Rattle.pv_inst.specs.Use.{any_survives, settled}
+use Rattle.pv_inst.specs.Use.{any_survives, after_use}
 use Rattle.pv_inst.specs.TwoPointers.{in_common, tried_beside, miss_of_two, same_miss, same_left, same_right, after_left, same_by, same_state}
 use Rattle.pv_inst.specs.SameParts.{after_both}
 use Rattle.pv_inst.proofs.Together.{Common, common_found, turned, right_can}
@@ -71,7 +71,7 @@ filled-right : (a b : Bool) → (a || b) ≡ false → b ≡ false
 filled-right true b h = absurd (true≢false h)
 filled-right false b h = h
 
-settled-instances : (T : Table) (p : Prov) (tried : Tried) → (settled T p (Ok tried)).instances ≡ T.instances
+settled-instances : (T : Table) (p : Prov) (tried : Tried) → (after_use T p (Ok tried)).instances ≡ T.instances
 settled-instances T Empty tried = refl
 settled-instances T (Inst i) tried = refl
 settled-instances T (Pair k) tried = refl
@@ -94,7 +94,7 @@ inst-common T p r h i e = alone-common (subst (λ x. Common T.instances (stands 
     alone-common (inl g) = g
     alone-common (inr g) = absurd (true≢false (sym g))
 
-made-after : (T : Table) (p : Prov) (tried : Tried) (q : Prov) → IsMadeIn T q → IsMadeIn (settled T p (Ok tried)) q
+made-after : (T : Table) (p : Prov) (tried : Tried) (q : Prov) → IsMadeIn T q → IsMadeIn (after_use T p (Ok tried)) q
 made-after T p tried Empty h = tt
 made-after T Empty tried (Inst i) h = h
 made-after T (Inst j) tried (Inst i) h = h
@@ -108,7 +108,7 @@ made-after T (Pair k) tried (Pair m) h = let e = kept-length T k tried in (h.0, 
     set-length (v ∷ ts) zero t = refl
     set-length (v ∷ ts) (suc i) t = ap suc (set-length ts i t)
 
-    kept-length : (T : Table) (k : ℕ) (tried : Tried) → length (settled T (Pair k) (Ok tried)).pairs ≡ length T.pairs
+    kept-length : (T : Table) (k : ℕ) (tried : Tried) → length (after_use T (Pair k) (Ok tried)).pairs ≡ length T.pairs
     kept-length T k tried = by (twin_at T.pairs k)
       where
         by : (o : Option Twin) → length (keeping o T.pairs k tried.low tried.high) ≡ length T.pairs
@@ -180,7 +180,7 @@ module _ (ds : List Bool) (T : Table) (p q : Prov) (e : (is_empty p || is_empty 
       let r' = stands S.pairs q in
       let s' = stands S.pairs p in
       let left : after_left S p q ≡ S = cp.1.own r' (common-of xs x r' a (subst (λ z. Of r' z) (sym f) (of-one r' y cq.1.one))) in
-      let both : after_both S p q ≡ S = ap (λ (V : Table). settled V q (Ok (tried_beside V q s'))) left ∙ cq.1.own s' (common-of xs y s' ay (subst (λ z. Of s' z) f (of-one s' x cp.1.one))) in
+      let both : after_both S p q ≡ S = ap (λ (V : Table). after_use V q (Ok (tried_beside V q s'))) left ∙ cq.1.own s' (common-of xs y s' ay (subst (λ z. Of s' z) f (of-one s' x cp.1.one))) in
       (tt, ab, both ∙ sym (cr.stays s ∙ cp.1.stays r), nearly ds (after_both T p q).pairs covers-both)
 
   -- where the late one goes on alone, it has dropped a side

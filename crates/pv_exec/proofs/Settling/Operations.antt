@@ -7,8 +7,8 @@ use Rattle.pv_prov.specs.declared.names.Prov.{Prov}
 use Rattle.pv_prov.specs.declared.names.Prov.TheVariants.{Empty, Inst, Pair}
 use Rattle.pv_inst.specs.Table.{Table, IsMadeIn}
 use Rattle.pv_shadow.specs.declared.byte.Byte.{Byte}
-use Rattle.pv_shadow.specs.Bytes.{read}
-use Rattle.pv_shadow.specs.Whole.{plain}
+use Rattle.pv_shadow.specs.Bytes.{bytes_from}
+use Rattle.pv_shadow.specs.Whole.{number_bytes}
 use Rattle.pv_object.specs.declared.values.Pointer.{Pointer}
 use Rattle.pv_object.specs.declared.values.Reach.{Reach}
 use Rattle.pv_object.specs.declared.values.Value.{Value}
@@ -21,9 +21,9 @@ use Rattle.pv_seq.specs.Sequencing.{Access, conflicts}
 use Rattle.pv_libc.specs.declared.values.Arg.{Arg}
 use Rattle.pv_watch.specs.declared.event.What.{What}
 use Rattle.pv_world.specs.Worlds.{Worth, Nothing, Missing, Scalar, Whole, World}
-use Rattle.pv_world.specs.Worths.{truth_int, pointer_of, unplain, unpresent, missing_value}
+use Rattle.pv_world.specs.Worths.{truth_int, pointer_of, why_not_set, why_missing, missing_value}
 use Rattle.pv_world.specs.Conversions.{opposite}
-use Rattle.pv_world.specs.Telling.{Told, quiet, telling}
+use Rattle.pv_world.specs.Telling.{Told, no_telling, telling}
 use Rattle.pv_world.specs.Doing.{Done, Answers, Fails}
 use Rattle.pv_world.specs.Coming.{IsMadeWorth}
 use Rattle.pv_world.specs.Accesses.{is_inexact, stored_as}
@@ -143,7 +143,7 @@ module _ (b : Setting) (F : Type 0) (ds : List Bool) where
       → Tracks ds (reads_permitted l p rivals at w (telling us)) (reads_permitted l p rivals (at_with at at') (on_world ds w) (telling us'))
   permitted-tracks l p rivals at at' w us us' f =
       either-tracks ds (conflicts (access_to l p false) rivals) _ _ _ _ tt
-      (worth-tracks F ds w (read w.memory.bytes at.address l.size) l.shape (Some at.address) (Some p.prov) (telling us) (telling us') refl refl f)
+      (worth-tracks F ds w (bytes_from w.memory.bytes at.address l.size) l.shape (Some at.address) (Some p.prov) (telling us) (telling us') refl refl f)
 
   reads-at : (l : Lvalue) (p : Pointer) (rivals : List Access) → 1 ≤ l.size → GoesOn F ds l.size (reads_at b l p rivals)
   reads-at l p rivals some at at' w us us' h f =
@@ -154,7 +154,7 @@ module _ (b : Setting) (F : Type 0) (ds : List Bool) where
   reads-onward l p rivals at w t =
       if-on (leading F) (permits b w l at false) w _ _
       (if-on (leading F) (conflicts (access_to l p false) rivals) w _ _ (record { leads = led-itself })
-      (λ e. worth-on (leading F) w (read w.memory.bytes at.address l.size) l.shape (Some at.address) (Some p.prov) t))
+      (λ e. worth-on (leading F) w (bytes_from w.memory.bytes at.address l.size) l.shape (Some at.address) (Some p.prov) t))
       (λ e. record { leads = led-itself })
 
   reads-track : (l : Lvalue) (v : Worth) (rivals : List Access) (w : World) → 1 ≤ l.size → Fits F ds w → Tracks ds (reads b l v rivals w) (reads b l v rivals (on_world ds w))
@@ -182,7 +182,7 @@ module _ (b : Setting) (F : Type 0) (ds : List Bool) where
 
   writes-track : (l : Lvalue) (place v : Worth) (from : Option ℕ) (rivals : List Access) (w : World) → 1 ≤ l.size → Fits F ds w → Tracks ds (writes b l place v from rivals w) (writes b l place v from rivals (on_world ds w))
   writes-track l place v from rivals w some f =
-      unless-tracks ds (unpresent v) w _ _ f.1
+      unless-tracks ds (why_missing v) w _ _ f.1
       (reaching-tracks F ds (pointer_of place) l.size l.align true w (writes_at b l (pointer_of place) v from rivals) f (writes-at l (pointer_of place) v from rivals some) (λ at u t. writes-onward l (pointer_of place) v from rivals at u t))
 
   -- objects
@@ -200,8 +200,8 @@ module _ (b : Setting) (F : Type 0) (ds : List Bool) where
   ends-track : (o : ℕ) (w : World) → Fits F ds w → Tracks ds (ends b o w) (ends b o (on_world ds w))
   ends-track o w f = possible-tracks (is_live w (instance_for b o w)) w _ _ f (ends-tracks F ds w (instance_for b o w) f)
 
-  stored-tracks : (w : World) (a : ℕ) (bytes : List Byte) → Fits F ds w → Tracks ds (Answers Nothing (put_at w a bytes) quiet) (Answers Nothing (put_at (on_world ds w) a bytes) quiet)
-  stored-tracks w a bytes f = gives-tracks ds Nothing (put_at w a bytes) quiet quiet refl f.1 (nearly ds (pairs_of w) f.2)
+  stored-tracks : (w : World) (a : ℕ) (bytes : List Byte) → Fits F ds w → Tracks ds (Answers Nothing (put_at w a bytes) no_telling) (Answers Nothing (put_at (on_world ds w) a bytes) no_telling)
+  stored-tracks w a bytes f = gives-tracks ds Nothing (put_at w a bytes) no_telling no_telling refl f.1 (nearly ds (pairs_of w) f.2)
 
   fills-track : (o : ℕ) (v : Option ℕ) (w : World) → Fits F ds w → Tracks ds (fills b o v w) (fills b o v (on_world ds w))
   fills-track o v w f = possible-tracks (can_fill b o w) w _ _ f (stored-tracks w (base_in w (instance_for b o w)) (replicate (size_of b (object_at b.unit o).t) (filling v)) f)
@@ -211,25 +211,25 @@ module _ (b : Setting) (F : Type 0) (ds : List Bool) where
 
   puts-track : (o offset : ℕ) (l : Lvalue) (v : Worth) (w : World) → Fits F ds w → Tracks ds (puts b o offset l v w) (puts b o offset l v (on_world ds w))
   puts-track o offset l v w f =
-      subst (λ c. Tracks ds (puts b o offset l v w) (where_possible c (on_world ds w) (Answers Nothing (put_at (on_world ds w) (base_in w (instance_for b o w) + offset) (stored_as l.number l.shape v)) quiet))) (sym (can-on o offset l v w))
+      subst (λ c. Tracks ds (puts b o offset l v w) (where_possible c (on_world ds w) (Answers Nothing (put_at (on_world ds w) (base_in w (instance_for b o w) + offset) (stored_as l.number l.shape v)) no_telling))) (sym (can-on o offset l v w))
       (possible-tracks (can_put b o offset l v w) w _ _ f (stored-tracks w (base_in w (instance_for b o w) + offset) (stored_as l.number l.shape v) f))
 
   text-track : (o offset size l : ℕ) (w : World) → Fits F ds w → Tracks ds (puts_text b o offset size l w) (puts_text b o offset size l (on_world ds w))
-  text-track o offset size l w f = possible-tracks (can_put_text b o offset size l w) w _ _ f (stored-tracks w (base_in w (instance_for b o w) + offset) (plain None 0 (text_for b size l)) f)
+  text-track o offset size l w f = possible-tracks (can_put_text b o offset size l w) w _ _ f (stored-tracks w (base_in w (instance_for b o w) + offset) (number_bytes None 0 (text_for b size l)) f)
 
   -- two operands whose names were made
   subtracts-track : (size : ℕ) (v x : Worth) (w : World) → suits b (Subtracts size v x) w ≡ true → Fits F ds w → Tracks ds (works b (Subtracts size v x) w) (works b (Subtracts size v x) (on_world ds w))
   subtracts-track size v x w e f =
       let T = w.memory.table in
       let both = right_of (nat_le 1 size) (knows_worth T v && knows_worth T x) (right_of (is_size size) _ e) in
-      unless-tracks ds (unplain v) w _ _ f.1 (unless-tracks ds (unplain x) w _ _ f.1 (between-track F ds size (pointer_of v) (pointer_of x) w
+      unless-tracks ds (why_not_set v) w _ _ f.1 (unless-tracks ds (why_not_set x) w _ _ f.1 (between-track F ds size (pointer_of v) (pointer_of x) w
       (known-made T v (left_of (knows_worth T v) (knows_worth T x) both)) (known-made T x (right_of (knows_worth T v) (knows_worth T x) both)) f))
 
   orders-track : (op : BinOp) (v x : Worth) (w : World) → suits b (Orders op v x) w ≡ true → Fits F ds w → Tracks ds (works b (Orders op v x) w) (works b (Orders op v x) (on_world ds w))
   orders-track op v x w e f =
       let T = w.memory.table in
       let both = right_of (is_order op) (knows_worth T v && knows_worth T x) e in
-      unless-tracks ds (unplain v) w _ _ f.1 (unless-tracks ds (unplain x) w _ _ f.1 (ordered-track F ds op (pointer_of v) (pointer_of x) w
+      unless-tracks ds (why_not_set v) w _ _ f.1 (unless-tracks ds (why_not_set x) w _ _ f.1 (ordered-track F ds op (pointer_of v) (pointer_of x) w
       (known-made T v (left_of (knows_worth T v) (knows_worth T x) both)) (known-made T x (right_of (knows_worth T v) (knows_worth T x) both)) f))
 
   -- a size of one byte at least
@@ -246,8 +246,8 @@ module _ (b : Setting) (F : Type 0) (ds : List Bool) where
     works-track (CalculatesOne op k v) w e f = calculates-one F ds op k v w f
     works-track (Tests v) w e f = tests-track F ds truth_int v w f
     works-track (Negates v) w e f = tests-track F ds opposite v w f
-    works-track (Accepts v) w e f = unless-tracks ds (unpresent v) w _ _ f.1 (quiet-gives F ds v w f)
-    works-track (Needs v) w e f = unless-tracks ds (unplain v) w _ _ f.1 (quiet-gives F ds v w f)
+    works-track (Accepts v) w e f = unless-tracks ds (why_missing v) w _ _ f.1 (quiet-gives F ds v w f)
+    works-track (Needs v) w e f = unless-tracks ds (why_not_set v) w _ _ f.1 (quiet-gives F ds v w f)
     works-track (Moves minus first size v x) w e f = moves-track F ds minus first size v x w f
     works-track (Subtracts size v x) w e f = subtracts-track size v x w e f
     works-track (Orders op v x) w e f = orders-track op v x w e f
@@ -265,8 +265,8 @@ module _ (b : Setting) (F : Type 0) (ds : List Bool) where
     works-track (MakesLiteral l) w e f = literal-makes l w f
     works-track (MakesFunction g) w e f = function-makes g w f
     works-track (Ends o) w e f = ends-track o w f
-    works-track BeginsBody w e f = gives-tracks ds Nothing _ quiet quiet refl f.1 (nearly ds (pairs_of w) f.2)
-    works-track EndsBody w e f = gives-tracks ds Nothing _ quiet quiet refl f.1 (nearly ds (pairs_of w) f.2)
+    works-track BeginsBody w e f = gives-tracks ds Nothing _ no_telling no_telling refl f.1 (nearly ds (pairs_of w) f.2)
+    works-track EndsBody w e f = gives-tracks ds Nothing _ no_telling no_telling refl f.1 (nearly ds (pairs_of w) f.2)
     works-track (Fills o v) w e f = fills-track o v w f
     works-track (Puts o offset l v) w e f = puts-track o offset l v w f
     works-track (PutsText o offset size l) w e f = text-track o offset size l w f
@@ -278,5 +278,5 @@ module _ (b : Setting) (F : Type 0) (ds : List Bool) where
 
     pub does-tracks : (o : Op) (w : World) → Fits F ds w → Tracks ds (does b o w) (does b o (on_world ds w))
     does-tracks o w f =
-        subst (λ c. Tracks ds (does b o w) (cond c (works b o (on_world ds w)) (Fails missing_value None (on_world ds w) quiet))) (sym (suits-on b ds o w))
-        (suited-tracks (suits b o w) w (works b o w) (works b o (on_world ds w)) (Fails missing_value None w quiet) (Fails missing_value None (on_world ds w) quiet) (λ e. works-track o w e f) tt)
+        subst (λ c. Tracks ds (does b o w) (cond c (works b o (on_world ds w)) (Fails missing_value None (on_world ds w) no_telling))) (sym (suits-on b ds o w))
+        (suited-tracks (suits b o w) w (works b o w) (works b o (on_world ds w)) (Fails missing_value None w no_telling) (Fails missing_value None (on_world ds w) no_telling) (λ e. works-track o w e f) tt)

@@ -9,7 +9,7 @@ use Rattle.pv_inst.specs.declared.values.Test.TheVariants.{Live}
 use Rattle.pv_inst.specs.declared.values.Tried.{Tried}
 use Rattle.pv_inst.specs.declared.values.Miss.{Miss}
 use Rattle.pv_inst.specs.Table.{Table}
-use Rattle.pv_inst.specs.Use.{use_answer, settled}
+use Rattle.pv_inst.specs.Use.{use_answer, after_use}
 use Rattle.pv_object.specs.declared.values.Asker.TheVariants.{Print}
 use Rattle.pv_object.specs.declared.values.Pointer.{Pointer}
 use Rattle.pv_object.specs.declared.values.Stop.{Stop}
@@ -19,12 +19,12 @@ use Rattle.pv_object.specs.Memory.{Mem}
 use Rattle.pv_object.specs.Operations.{to_int, to_int_after, exposed_to}
 use Rattle.pv_libc.specs.declared.values.Arg.{Arg}
 use Rattle.pv_libc.specs.declared.values.Note.{Note}
-use Rattle.pv_libc.specs.Steps.{Now, Did, done, halted, next, next_by}
+use Rattle.pv_libc.specs.Steps.{Now, Did, answer_now, stop_now, next, next_by}
 use Rattle.pv_libc.specs.Formats.{piece_at, number_piece}
 use Rattle.pv_libc.specs.FormatParts.{percent_piece, given_of}
 use Rattle.pv_libc.specs.Arguments.{string_of, address_of}
 use Rattle.pv_libc.specs.Printing.{format_stop, number_done, string_done, address_by, address_done, Printed, piece_done, printed_from, format_of}
-use Rattle.pv_libc.specs.Calls.{pointer, offer, printed, stopped, pointer_in}
+use Rattle.pv_libc.specs.Calls.{pointer, offer, text_of_format, stop_note, pointer_in}
 use Rattle.pv_exec.proofs.Memory.Rows.{Sound, led-itself}
 use Rattle.pv_exec.proofs.Memory.Tables.{leading}
 use Rattle.pv_exec.proofs.Memory.Pointers.{to_int-leads}
@@ -53,7 +53,7 @@ to_long S = piece_done (percent_piece 108) [] [] S
 -- a piece of a call from such a place on
 abbrev from_place : Result Printed Stop → (Printed → Now → Did (List ℕ)) → Now → Did (List ℕ)
 from_place (Ok at) go S = go at S
-from_place (Err y) go S = halted y S
+from_place (Err y) go S = stop_now y S
 
 abbrev stop_of : {A : Type 0} → Stop → Result A Stop → Stop
 stop_of z (Ok a) = z
@@ -64,10 +64,10 @@ int-covers ds T p k (Err m) c = c
 int-covers ds T p k (Ok t) c = by (fits_of k (pos p.address))
   where
     U : Table
-    U = settled T p.prov (Ok t)
+    U = after_use T p.prov (Ok t)
 
-    by : (b : Bool) → Covers ds (exposed_to (settled T p.prov (Ok t)) p b t).1.pairs
-    by true = subst (λ ts. Covers ds ts) (sym (expose-pairs (settled T p.prov (Ok t)) p.prov)) (settled-covers ds T p.prov (Ok t) c)
+    by : (b : Bool) → Covers ds (exposed_to (after_use T p.prov (Ok t)) p b t).1.pairs
+    by true = subst (λ ts. Covers ds ts) (sym (expose-pairs (after_use T p.prov (Ok t)) p.prov)) (settled-covers ds T p.prov (Ok t) c)
     by false = settled-covers ds T p.prov (Ok t) c
 
 module _ (F : Type 0) (ds : List Bool) where
@@ -126,19 +126,19 @@ module _ (F : Type 0) (ds : List Bool) where
     taking cs f f' h g (x ∷ xs) text = g x xs text
 
     -- a conversion's text, and then the rest of the format
-    flat : (cs : List ℕ) (r : Result (List ℕ) Stop) (d : Did (List ℕ)) (at : List ℕ → Printed) → next_by r d (λ t T. printed_from cs (at t) T) ≡ next (next_by r d (λ t T. done (at t) T)) (λ at T. printed_from cs at T)
+    flat : (cs : List ℕ) (r : Result (List ℕ) Stop) (d : Did (List ℕ)) (at : List ℕ → Printed) → next_by r d (λ t T. printed_from cs (at t) T) ≡ next (next_by r d (λ t T. answer_now (at t) T)) (λ at T. printed_from cs at T)
     flat cs (Ok t) d at = refl
     flat cs (Err y) d at = refl
 
     taken : (cs : List ℕ) (d d' : Now → Did (List ℕ)) (at at' : List ℕ → Printed) → Goes F ds (List ℕ) Equal d d' → ((t : List ℕ) → Goes F ds (List ℕ) Equal (λ S. printed_from cs (at t) S) (λ S. printed_from cs (at' t) S))
-        → Goes F ds (List ℕ) Equal (λ S. next (next (d S) (λ t T. done (at t) T)) (λ at T. printed_from cs at T)) (λ S. next (next (d' S) (λ t T. done (at' t) T)) (λ at T. printed_from cs at T))
+        → Goes F ds (List ℕ) Equal (λ S. next (next (d S) (λ t T. answer_now (at t) T)) (λ at T. printed_from cs at T)) (λ S. next (next (d' S) (λ t T. answer_now (at' t) T)) (λ at T. printed_from cs at T))
     taken cs d d' at at' h g =
-        subst (λ (f : Now → Did (List ℕ)). Goes F ds (List ℕ) Equal f (λ S. next (next (d' S) (λ t T. done (at' t) T)) (λ at T. printed_from cs at T))) (λ i S. flat cs (d S).answer (d S) at i)
+        subst (λ (f : Now → Did (List ℕ)). Goes F ds (List ℕ) Equal f (λ S. next (next (d' S) (λ t T. answer_now (at' t) T)) (λ at T. printed_from cs at T))) (λ i S. flat cs (d S).answer (d S) at i)
         (subst (λ (f : Now → Did (List ℕ)). Goes F ds (List ℕ) Equal (λ S. next (d S) (λ t T. printed_from cs (at t) T)) f) (λ i S. flat cs (d' S).answer (d' S) at' i)
         (next-goes F ds Equal Equal (λ a. refl) d d' (λ t T. printed_from cs (at t) T) (λ t T. printed_from cs (at' t) T) h
         (λ t t' e. subst (λ x. Goes F ds (List ℕ) Equal (λ T. printed_from cs (at t) T) (λ T. printed_from cs (at' x) T)) (sym e) (g t))))
 
-    halts : (cs : List ℕ) → Goes F ds (List ℕ) Equal (λ S. next (halted format_stop S) (λ at T. printed_from cs at T)) (λ S. next (halted format_stop S) (λ at T. printed_from cs at T))
+    halts : (cs : List ℕ) → Goes F ds (List ℕ) Equal (λ S. next (stop_now format_stop S) (λ at T. printed_from cs at T)) (λ S. next (stop_now format_stop S) (λ at T. printed_from cs at T))
     halts cs = record { leads = λ S. led-itself; covers = λ S c. c; walks = λ S ns so al c. tt }
 
     number-on : (S : Now) (cs : List ℕ) → Prints cs (to_text S).answer → (long : Bool) (c : ℕ) → On cs (λ xs. piece_done (number_piece long c) (map (offer M) xs)) (λ xs. piece_done (number_piece long c) (map (offer M') xs))
@@ -153,8 +153,8 @@ module _ (F : Type 0) (ds : List Bool) where
         if-on cs (c == 37) _ _ (λ xs text. h xs _)
         (if-on cs (c == 108) _ _ (λ xs text. g xs _)
         (if-on cs (c == 99) _ _ (taking cs _ _ (λ text. halts cs) (λ x xs text. taken cs _ _ _ _ (number-goes _ _) (λ t. h xs (text ++ t))))
-        (if-on cs (c == 115) _ _ (taking cs _ _ (λ text. halts cs) (λ x xs text. taken cs _ _ _ _ (string-goes (string_of x.shape x.value) (stopped M (pointer_in x.value).prov) (stopped M' (pointer_in x.value).prov)) (λ t. h xs (text ++ t))))
-        (if-on cs (c == 112) _ _ (taking cs _ _ (λ text. halts cs) (λ x xs text. taken cs _ _ _ _ (address-goes (address_of x.shape x.value) (stopped M (pointer_in x.value).prov) (stopped M' (pointer_in x.value).prov)) (λ t. h xs (text ++ t))))
+        (if-on cs (c == 115) _ _ (taking cs _ _ (λ text. halts cs) (λ x xs text. taken cs _ _ _ _ (string-goes (string_of x.shape x.value) (stop_note M (pointer_in x.value).prov) (stop_note M' (pointer_in x.value).prov)) (λ t. h xs (text ++ t))))
+        (if-on cs (c == 112) _ _ (taking cs _ _ (λ text. halts cs) (λ x xs text. taken cs _ _ _ _ (address-goes (address_of x.shape x.value) (stop_note M (pointer_in x.value).prov) (stop_note M' (pointer_in x.value).prov)) (λ t. h xs (text ++ t))))
         (number-on S cs h false c)))))
 
     prints : (S : Now) (cs : List ℕ) → Prints cs (to_text S).answer × Prints cs (to_percent S).answer × Prints cs (to_long S).answer
@@ -175,13 +175,13 @@ module _ (F : Type 0) (ds : List Bool) where
   printed-goes : (cs : List ℕ) (args : List Arg) (M M' : Mem) (S : Now) → Prints M M' cs (to_text S).answer
   printed-goes cs args M M' S = (prints M M' S cs).0
 
-  pub printed-covers : (args : List Arg) (S : Now) → Covers ds S.memory.table.pairs → Covers ds (printed args S).after.memory.table.pairs
+  pub printed-covers : (args : List Arg) (S : Now) → Covers ds S.memory.table.pairs → Covers ds (text_of_format args S).after.memory.table.pairs
   printed-covers args S c = (printed-goes (format_of S.memory (pointer args 0).prov) args S.memory S.memory S (drop 1 args) []).covers S c
 
-  pub printed-walks : (args : List Arg) (S : Now) (ns : List Note) → Sound F S.memory.table.instances S.memory.table.pairs → Allows ds S.memory.table.pairs → Covers ds S.memory.table.pairs → Walks ds Equal (printed args S) (printed args (on_now ds ns S))
+  pub printed-walks : (args : List Arg) (S : Now) (ns : List Note) → Sound F S.memory.table.instances S.memory.table.pairs → Allows ds S.memory.table.pairs → Covers ds S.memory.table.pairs → Walks ds Equal (text_of_format args S) (text_of_format args (on_now ds ns S))
   printed-walks args S ns so al c =
       let M = S.memory in
       let N = on_memory ds M in
       let cs = format_of M (pointer args 0).prov in
-      subst (λ x. Walks ds Equal (printed args S) (from_place (to_text S).answer (λ at T. printed_from x (record at { left = map (offer N) (drop 1 args); text = [] }) T) (on_now ds ns S))) (sym (format-on M (pointer args 0).prov))
+      subst (λ x. Walks ds Equal (text_of_format args S) (from_place (to_text S).answer (λ at T. printed_from x (record at { left = map (offer N) (drop 1 args); text = [] }) T) (on_now ds ns S))) (sym (format-on M (pointer args 0).prov))
       ((printed-goes cs args M N S (drop 1 args) []).walks S ns so al c)

@@ -9,7 +9,7 @@ use Rattle.pv_prov.specs.declared.pairs.Twin.{Twin}
 use Rattle.pv_prov.specs.declared.names.Stands.{Stands}
 use Rattle.pv_prov.specs.declared.names.Prov.{Prov}
 use Rattle.pv_prov.specs.declared.names.Prov.TheVariants.{Empty, Inst, Pair}
-use Rattle.pv_prov.specs.Names.{stands, stands_of, twin_at, alone, is_empty}
+use Rattle.pv_prov.specs.Names.{stands, stands_of, twin_at, one_candidate, is_empty}
 use Rattle.pv_inst.specs.declared.values.Instance.{Instance}
 use Rattle.pv_inst.specs.declared.values.Info.{Info}
 use Rattle.pv_inst.specs.declared.values.Kind.{Kind}
@@ -20,7 +20,7 @@ use Rattle.pv_inst.specs.declared.values.Miss.{Miss}
 use Rattle.pv_inst.specs.Table.{Table, instance_at}
 use Rattle.pv_inst.specs.Infos.{info_of}
 use Rattle.pv_inst.specs.WellFormed.{Meet, HasMet}
-use Rattle.pv_inst.specs.Use.{survives, judged, if_two, use_answer, settled}
+use Rattle.pv_inst.specs.Use.{survives, test_answer, if_two, use_answer, after_use}
 use Rattle.pv_inst.specs.SameParts.{made_passes}
 use Rattle.pv_object.specs.declared.values.Pointer.{Pointer}
 use Rattle.pv_object.specs.declared.values.Reach.{Reach}
@@ -28,7 +28,7 @@ use Rattle.pv_object.specs.declared.values.Asker.{Asker}
 use Rattle.pv_object.specs.declared.values.Stop.{Stop}
 use Rattle.pv_object.specs.declared.values.Stop.TheVariants as stop
 use Rattle.pv_fault.specs.declared.verdict.Verdict.TheVariants as verdict
-use Rattle.pv_object.specs.Access.{fault, clause_of, is_null, range_stop, chosen, readonly_stop, or_stop, checked_in, checked, reach_after, reach}
+use Rattle.pv_object.specs.Access.{fault, clause_of, is_null, range_stop, first_survivor, readonly_stop, or_stop, checked_in, access_check, reach_after, reach}
 use Rattle.pv_object.specs.OperationParts.{write_stop}
 use Rattle.pv_exec.proofs.Memory.Rows.{Sound}
 use Rattle.pv_exec.proofs.Settling.Sides.{to_side, on_sides, on_table, Allows, Covers, nearly}
@@ -43,7 +43,7 @@ Reaches n r r' = (r'.address ≡ r.address) × (1 ≤ n → (r'.inst ≡ r.inst)
 -- the survivor that is chosen
 pub record IsPick (zap : Bool) (xs : List Instance) (s : Stands) (t : Test) (tried : Tried) : Type 0 where
   pub number : ℕ
-  pub is : chosen s tried ≡ Some number
+  pub is : first_survivor s tried ≡ Some number
   pub passed : survives zap xs (Some number) t ≡ true
   pub member : (s.low ≡ Some number) ⊎ (s.high ≡ Some number)
 
@@ -59,7 +59,7 @@ pick-by zap xs low (Some i) t pair m tried false true e f h =
 pick-by zap xs low None t pair m tried false true e f h = absurd (true≢false (sym f))
 pick-by zap xs low high t pair m tried false false e f h = absurd (cc)
 
-pub pick : (zap : Bool) (xs : List Instance) (s : Stands) (t : Test) (pair : Option ℕ) (tried : Tried) → judged zap xs s pair t ≡ Ok tried → IsPick zap xs s t tried
+pub pick : (zap : Bool) (xs : List Instance) (s : Stands) (t : Test) (pair : Option ℕ) (tried : Tried) → test_answer zap xs s pair t ≡ Ok tried → IsPick zap xs s t tried
 pick zap xs s t pair tried h = pick-by zap xs s.low s.high t pair _ tried (survives zap xs s.low t) (survives zap xs s.high t) refl refl h
 
 -- which of its candidates it is
@@ -78,14 +78,14 @@ which-of None i (inr e) = absurd (none-some i e)
 which-of (Some w) i (inl e) = (w, refl, inl (kept-number w.keeps_low w.low i e))
 which-of (Some w) i (inr e) = (w, refl, inr (kept-number w.keeps_high w.high i e))
 
-pub alone-which : (j i : ℕ) → ((alone j).low ≡ Some i) ⊎ ((alone j).high ≡ Some i) → i ≡ j
+pub alone-which : (j i : ℕ) → ((one_candidate j).low ≡ Some i) ⊎ ((one_candidate j).high ≡ Some i) → i ≡ j
 alone-which j i (inl e) = sym (same_Some j i e)
 alone-which j i (inr e) = absurd (none-some i e)
 
 record IsHit (T : Table) (p : Prov) (a n : ℕ) (tried : Tried) : Type 0 where
   number : ℕ
   inst : Instance
-  is : chosen (stands T.pairs p) tried ≡ Some number
+  is : first_survivor (stands T.pairs p) tried ≡ Some number
   here : instance_at T.instances number ≡ Some inst
   live : inst.live ≡ true
   from : inst.base ≤ a
@@ -100,7 +100,7 @@ and_right : (a b : Bool) → (a && b) ≡ true → b ≡ true
 and_right true b h = h
 and_right false b h = absurd (true≢false (sym h))
 
-hit-at : (T : Table) (p : Prov) (a n : ℕ) (tried : Tried) (i : ℕ) (o : Option Instance) → instance_at T.instances i ≡ o → made_passes T.zap o (Range a n) ≡ true → chosen (stands T.pairs p) tried ≡ Some i → Which T p i → IsHit T p a n tried
+hit-at : (T : Table) (p : Prov) (a n : ℕ) (tried : Tried) (i : ℕ) (o : Option Instance) → instance_at T.instances i ≡ o → made_passes T.zap o (Range a n) ≡ true → first_survivor (stands T.pairs p) tried ≡ Some i → Which T p i → IsHit T p a n tried
 hit-at T p a n tried i None e h is w = absurd (true≢false (sym h))
 hit-at T p a n tried i (Some x) e h is w =
     let tests = and_right x.live _ h in
@@ -118,7 +118,7 @@ hit-at T p a n tried i (Some x) e h is w =
 hit : (T : Table) (p : Prov) (a n : ℕ) (tried : Tried) → use_answer T p (Range a n) ≡ Ok tried → IsHit T p a n tried
 hit T Empty a n tried h = absurd (cc)
 hit T (Inst j) a n tried h =
-    let k = pick T.zap T.instances (alone j) (Range a n) None tried h in
+    let k = pick T.zap T.instances (one_candidate j) (Range a n) None tried h in
     hit-at T (Inst j) a n tried k.number (instance_at T.instances k.number) refl k.passed k.is (alone-which j k.number k.member)
 hit T (Pair k) a n tried h =
     let s = stands T.pairs (Pair k) in
@@ -208,22 +208,22 @@ aligned-similar true n c x x' h = h
 aligned-similar false n c x x' h = tt
 
 checked-is : (W : Table) (xs : List Instance) (o : Option ℕ) (i : ℕ) (x : Instance) (c : Clause) (p : Pointer) (n align : ℕ) (write : Bool) (t : Tried) → W.instances ≡ xs → o ≡ Some i → instance_at xs i ≡ Some x → x.live ≡ true
-    → checked W o c p n align write t ≡ checked_in i c p n align write t (Some (info x))
+    → access_check W o c p n align write t ≡ checked_in i c p n align write t (Some (info x))
 checked-is W xs o i x c p n align write t w e f l =
-    ap (λ q. checked W q c p n align write t) e
+    ap (λ q. access_check W q c p n align write t) e
     ∙ ap (λ ys. checked_in i c p n align write t (info_of (instance_at ys i))) w
     ∙ ap (λ q. checked_in i c p n align write t (info_of q)) f
     ∙ ap (λ b. checked_in i c p n align write t (cond b (Some (info x)) None)) l
 
-settled-same : (T : Table) (p : Prov) (tried : Tried) → (settled T p (Ok tried)).instances ≡ T.instances
+settled-same : (T : Table) (p : Prov) (tried : Tried) → (after_use T p (Ok tried)).instances ≡ T.instances
 settled-same T Empty tried = refl
 settled-same T (Inst i) tried = refl
 settled-same T (Pair k) tried = refl
 
 module _ (F : Type 0) (ds : List Bool) (T : Table) (s : Sound F T.instances T.pairs) (co : Covers ds T.pairs) (p : Pointer) (n align : ℕ) (write : Bool) (c : Clause) where
   both-hit : (t t' : Tried) (h : IsHit T p.prov p.address n t) (g : IsHit (on_table ds T) p.prov p.address n t') → Similar (Reaches n)
-      (checked (settled T p.prov (Ok t)) (chosen (stands T.pairs p.prov) t) c p n align write t)
-      (checked (settled (on_table ds T) p.prov (Ok t')) (chosen (stands (on_sides ds T.pairs) p.prov) t') c p n align write t')
+      (access_check (after_use T p.prov (Ok t)) (first_survivor (stands T.pairs p.prov) t) c p n align write t)
+      (access_check (after_use (on_table ds T) p.prov (Ok t')) (first_survivor (stands (on_sides ds T.pairs) p.prov) t') c p n align write t')
   both-hit t t' h g =
       let x = h.inst in
       let y = g.inst in
@@ -231,14 +231,14 @@ module _ (F : Type 0) (ds : List Bool) (T : Table) (s : Sound F T.instances T.pa
       let insts : 1 ≤ n → y ≡ x = λ some. same_Some y x (sym g.here ∙ ap (instance_at T.instances) (same some) ∙ h.here) in
       let r : Reach = record { inst = h.number; offset = p.address - x.base; address = p.address; tried = t } in
       let r' : Reach = record { inst = g.number; offset = p.address - y.base; address = p.address; tried = t' } in
-      subst (λ q. Similar (Reaches n) q (checked (settled (on_table ds T) p.prov (Ok t')) (chosen (stands (on_sides ds T.pairs) p.prov) t') c p n align write t'))
-      (sym (checked-is (settled T p.prov (Ok t)) T.instances _ h.number x c p n align write t (settled-same T p.prov t) h.is h.here h.live))
+      subst (λ q. Similar (Reaches n) q (access_check (after_use (on_table ds T) p.prov (Ok t')) (first_survivor (stands (on_sides ds T.pairs) p.prov) t') c p n align write t'))
+      (sym (checked-is (after_use T p.prov (Ok t)) T.instances _ h.number x c p n align write t (settled-same T p.prov t) h.is h.here h.live))
       (subst (λ q. Similar (Reaches n) (checked_in h.number c p n align write t (Some (info x))) q)
-      (sym (checked-is (settled (on_table ds T) p.prov (Ok t')) T.instances _ g.number y c p n align write t' (settled-same (on_table ds T) p.prov t') g.is g.here g.live))
+      (sym (checked-is (after_use (on_table ds T) p.prov (Ok t')) T.instances _ g.number y c p n align write t' (settled-same (on_table ds T) p.prov t') g.is g.here g.live))
       (aligned-similar (eqb (p.address % align) 0) n c _ _
       (write-similar (eqb n 0) write n x.kind y.kind r r' refl (λ some. ap (λ (z : Instance). z.kind) (insts some)) (refl, λ some. (same some, ap (λ (z : Instance). p.address - z.base) (insts some))))))
 
-  reach-by : (r r' : Result Tried Miss) → use_answer T p.prov (Range p.address n) ≡ r → use_answer (on_table ds T) p.prov (Range p.address n) ≡ r' → Agree ds r (settled T p.prov r) r' (settled (on_table ds T) p.prov r')
+  reach-by : (r r' : Result Tried Miss) → use_answer T p.prov (Range p.address n) ≡ r → use_answer (on_table ds T) p.prov (Range p.address n) ≡ r' → Agree ds r (after_use T p.prov r) r' (after_use (on_table ds T) p.prov r')
       → Along ds (Reaches n) (reach_after T p n align write c r) (reach_after (on_table ds T) p n align write c r')
   reach-by (Err m) (Err m') e f h = go (range_stop c m) (range-fault c m)
     where
@@ -249,10 +249,10 @@ module _ (F : Type 0) (ds : List Bool) (T : Table) (s : Sound F T.instances T.pa
       go stop.NoMemory k = tt
   reach-by (Err m) (Ok t') e f h = absurd h
   reach-by (Ok t) (Err m') e f h =
-      lost {A = Reach} ds (Reaches n) (checked (settled T p.prov (Ok t)) (chosen (stands T.pairs p.prov) t) c p n align write t) (settled T p.prov (Ok t)) (range_stop c m') (on_table ds T) (range-fault c m') h
+      lost {A = Reach} ds (Reaches n) (access_check (after_use T p.prov (Ok t)) (first_survivor (stands T.pairs p.prov) t) c p n align write t) (after_use T p.prov (Ok t)) (range_stop c m') (on_table ds T) (range-fault c m') h
   reach-by (Ok t) (Ok t') e f h =
-      along {A = Reach} ds (Reaches n) _ _ (settled T p.prov (Ok t)) (settled (on_table ds T) p.prov (Ok t'))
-      (both-hit t t' (hit T p.prov p.address n t e) (hit (on_table ds T) p.prov p.address n t' f)) h.0 (nearly ds (settled T p.prov (Ok t)).pairs (settled-covers ds T p.prov (Ok t) co)) h.1
+      along {A = Reach} ds (Reaches n) _ _ (after_use T p.prov (Ok t)) (after_use (on_table ds T) p.prov (Ok t'))
+      (both-hit t t' (hit T p.prov p.address n t e) (hit (on_table ds T) p.prov p.address n t' f)) h.0 (nearly ds (after_use T p.prov (Ok t)).pairs (settled-covers ds T p.prov (Ok t) co)) h.1
 
 pub reach-along : (F : Type 0) (ds : List Bool) (T : Table) (p : Pointer) (n align : ℕ) (write : Bool) (by : Asker) → Sound F T.instances T.pairs → Allows ds T.pairs → Covers ds T.pairs
     → Along ds (Reaches n) (reach T p n align write by) (reach (on_table ds T) p n align write by)

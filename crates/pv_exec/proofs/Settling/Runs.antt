@@ -15,11 +15,11 @@ use Rattle.pv_eval.specs.declared.marked.Marked.{Marked}
 use Rattle.pv_eval.specs.States.{Setting, State, Why, Turns, Unreached, Stopped, Res, Gives, Stops, then_do, end_of, spend}
 use Rattle.pv_eval.specs.TypeForms.{Lvalue}
 use Rattle.pv_eval.specs.Constants.{constant_worth, is_high_pair}
-use Rattle.pv_eval.specs.Acting.{answered, acted, pair_count}
+use Rattle.pv_eval.specs.Acting.{answer_with_sides, after_doing, pair_count}
 use Rattle.pv_eval.specs.Operations.{Op, Puts, does, act}
 use Rattle.pv_eval.proofs.Closed.{IsLvalue, IsAsked, beside_setting}
 use Rattle.pv_exec.specs.Calls.{below}
-use Rattle.pv_exec.specs.Run.{setting_of, first, run_of, outcome_of, sides_at}
+use Rattle.pv_exec.specs.Run.{setting_of, initial_state, run_of, outcome_of, sides_at}
 use Rattle.pv_exec.specs.Laws.{run_at}
 use Rattle.pv_exec.proofs.Executed.{WaysIn, Alike, even-closed, run-closed}
 use Rattle.pv_exec.specs.Laying.{table_at, HasNoEmptyTag}
@@ -60,11 +60,11 @@ record Simulates (F : Type 0) (ds : List Bool) (A : Type 0) (m m' : State → Re
   follows : (s : State) (es : List Marked) → Sound F (table_at s).instances (table_at s).pairs → length (pairs_at (end_of (m s))) ≤ length ds → Allows ds (pairs_at s) → Follows ds (m s) (m' (on_state ds es s))
 
 -- an operation takes no turn
-answered-taken : (o : Option (List Bool)) (v : Worth) (line : ℕ) (w : World) (t : Told) (s : State) → o ≡ None → (end_of (answered o v line w t s)).taken ≡ s.taken
+answered-taken : (o : Option (List Bool)) (v : Worth) (line : ℕ) (w : World) (t : Told) (s : State) → o ≡ None → (end_of (answer_with_sides o v line w t s)).taken ≡ s.taken
 answered-taken None v line w t s e = refl
 answered-taken (Some x) v line w t s e = absurd (cc)
 
-acted-taken : (b : Setting) (line : ℕ) (d : Done) (s : State) → b.sides ≡ None → (end_of (acted b line d s)).taken ≡ s.taken
+acted-taken : (b : Setting) (line : ℕ) (d : Done) (s : State) → b.sides ≡ None → (end_of (after_doing b line d s)).taken ≡ s.taken
 acted-taken b line (Answers v w t) s e = answered-taken b.sides v line w t s e
 acted-taken b line (Fails y p w t) s e = refl
 acted-taken b line (Breaks y p w t) s e = refl
@@ -275,7 +275,7 @@ module _ (u : Stored) (full : HasNoEmptyTag u) (zap : Bool) (script : List Scrip
   unfolding run_of
   run-follows ds enough =
       let b = setting_of u n None zap in
-      (run-closed b n (Some ds) (simulating b full refl ds library) n (levels b full refl ds library n)).follows (first script zap) [] (first-sound (HasNoEmptyTag u) script zap) enough (none-allowed ds)
+      (run-closed b n (Some ds) (simulating b full refl ds library) n (levels b full refl ds library n)).follows (initial_state script zap) [] (first-sound (HasNoEmptyTag u) script zap) enough (none-allowed ds)
 
   pub late-is-settled : EndsDecided late_run → EndsAlike late_run (run_at u (Some (sides_at (end_of late_run))) zap script n)
   late-is-settled d =

@@ -14,7 +14,7 @@ use Rattle.pv_inst.specs.declared.values.Test.TheVariants.{Live}
 use Rattle.pv_inst.specs.declared.values.Miss.{Miss}
 use Rattle.pv_inst.specs.declared.values.Miss.TheVariants.{Empty as NoName, Ended, Apart, Undecided}
 use Rattle.pv_inst.specs.Table.{Table, IsMadeIn}
-use Rattle.pv_inst.specs.Use.{survives, any_survives, settled}
+use Rattle.pv_inst.specs.Use.{survives, any_survives, after_use}
 use Rattle.pv_inst.specs.TwoPointers.{is_number, in_common, tried_beside, miss_of_two}
 use Rattle.pv_exec.proofs.Settling.Sides.{to_side, on_sides, on_table, holds, Allows, Covers, keeping_of, IsOnSide}
 
@@ -173,10 +173,10 @@ both-common xs s r x y n (inr e) (inr f) h g = let same : x ≡ y = same_Some x 
 pub record IsCand (ds : List Bool) (T : Table) (p : Prov) (x : ℕ) : Type 0 where
   pub one : One (stands (on_sides ds T.pairs) p) x
   pub member : Of (stands T.pairs p) x
-  pub allows : (other : Stands) → in_common T.instances (Some x) other ≡ true → Allows ds (settled T p (Ok (tried_beside T p other))).pairs
-  pub refuses : (other : Stands) → ((i : ℕ) → p ≡ Inst i → in_common T.instances (Some i) other ≡ true) → Allows ds (settled T p (Ok (tried_beside T p other))).pairs → in_common T.instances (Some x) other ≡ true
-  pub stays : (other : Stands) → on_table ds (settled T p (Ok (tried_beside T p other))) ≡ on_table ds T
-  pub own : (other : Stands) → in_common T.instances (Some x) other ≡ true → settled (on_table ds T) p (Ok (tried_beside (on_table ds T) p other)) ≡ on_table ds T
+  pub allows : (other : Stands) → in_common T.instances (Some x) other ≡ true → Allows ds (after_use T p (Ok (tried_beside T p other))).pairs
+  pub refuses : (other : Stands) → ((i : ℕ) → p ≡ Inst i → in_common T.instances (Some i) other ≡ true) → Allows ds (after_use T p (Ok (tried_beside T p other))).pairs → in_common T.instances (Some x) other ≡ true
+  pub stays : (other : Stands) → on_table ds (after_use T p (Ok (tried_beside T p other))) ≡ on_table ds T
+  pub own : (other : Stands) → in_common T.instances (Some x) other ≡ true → after_use (on_table ds T) p (Ok (tried_beside (on_table ds T) p other)) ≡ on_table ds T
 
 -- the same of a pair
 abbrev kept_by : Table → ℕ → Option Twin → Stands → List Twin

@@ -5,7 +5,7 @@ use Rattle.std.proofs.lemmas.Option.{same_Some}
 use Rattle.pv_prov.specs.declared.pairs.Twin.{Twin}
 use Rattle.pv_prov.specs.declared.names.Prov.{Prov}
 use Rattle.pv_prov.specs.declared.names.Prov.TheVariants.{Empty, Inst, Pair}
-use Rattle.pv_prov.specs.Names.{stands, twin_at, alone}
+use Rattle.pv_prov.specs.Names.{stands, twin_at, one_candidate}
 use Rattle.pv_inst.specs.declared.values.Instance.{Instance}
 use Rattle.pv_inst.specs.declared.values.Test.{Test}
 use Rattle.pv_inst.specs.declared.values.Test.TheVariants.{Block, Code}
@@ -15,7 +15,7 @@ use Rattle.pv_inst.specs.WellFormed.{Meet, HasMet}
 use Rattle.pv_inst.specs.Use.{if_two, use_answer, is_heap, is_function, empty_answer, passes}
 use Rattle.pv_inst.specs.SameParts.{made_passes}
 use Rattle.pv_inst.proofs.Rows.{row_found}
-use Rattle.pv_object.specs.Access.{chosen}
+use Rattle.pv_object.specs.Access.{first_survivor}
 use Rattle.pv_exec.proofs.Memory.Rows.{Lies, Sound}
 use Rattle.pv_exec.proofs.Settling.Sides.{on_table}
 use Rattle.pv_exec.proofs.Settling.Exposures.{pair-here}
@@ -25,7 +25,7 @@ use Rattle.pv_exec.proofs.Settling.Reaching.{Which, pick, which-of, alone-which,
 pub record IsStart (T : Table) (p : Prov) (a : ℕ) (tried : Tried) : Type 0 where
   pub number : ℕ
   pub inst : Instance
-  pub is : chosen (stands T.pairs p) tried ≡ Some number
+  pub is : first_survivor (stands T.pairs p) tried ≡ Some number
   pub here : instance_at T.instances number ≡ Some inst
   pub live : inst.live ≡ true
   pub base : inst.base ≡ a
@@ -43,7 +43,7 @@ and_right false b h = absurd (true≢false (sym h))
 abbrev pub Fixes : (zap : Bool) → Test → ℕ → Type 0
 Fixes zap t a = ((x : Instance) → passes zap x t ≡ true → (x.live ≡ true) × (x.base ≡ a)) × ((tried : Tried) → empty_answer t ≡ Ok tried → ⊥)
 
-start-at : (T : Table) (p : Prov) (t : Test) (a : ℕ) → Fixes T.zap t a → (tried : Tried) (i : ℕ) (o : Option Instance) → instance_at T.instances i ≡ o → made_passes T.zap o t ≡ true → chosen (stands T.pairs p) tried ≡ Some i → Which T p i → IsStart T p a tried
+start-at : (T : Table) (p : Prov) (t : Test) (a : ℕ) → Fixes T.zap t a → (tried : Tried) (i : ℕ) (o : Option Instance) → instance_at T.instances i ≡ o → made_passes T.zap o t ≡ true → first_survivor (stands T.pairs p) tried ≡ Some i → Which T p i → IsStart T p a tried
 start-at T p t a fixes tried i None e h is w = absurd (true≢false (sym h))
 start-at T p t a fixes tried i (Some x) e h is w =
     let at = fixes.0 x h in
@@ -53,7 +53,7 @@ start-at T p t a fixes tried i (Some x) e h is w =
 pub start-hit : (T : Table) (p : Prov) (t : Test) (a : ℕ) → Fixes T.zap t a → (tried : Tried) → use_answer T p t ≡ Ok tried → IsStart T p a tried
 start-hit T Empty t a fixes tried h = absurd (fixes.1 tried h)
 start-hit T (Inst j) t a fixes tried h =
-    let k = pick T.zap T.instances (alone j) t None tried h in
+    let k = pick T.zap T.instances (one_candidate j) t None tried h in
     start-at T (Inst j) t a fixes tried k.number (instance_at T.instances k.number) refl k.passed k.is (alone-which j k.number k.member)
 start-hit T (Pair k) t a fixes tried h =
     let s = stands T.pairs (Pair k) in

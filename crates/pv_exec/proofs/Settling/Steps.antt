@@ -4,7 +4,7 @@ use Rattle.pv_num.specs.declared.kinds.IntKind.TheVariants.{UChar}
 use Rattle.pv_inst.specs.declared.values.Tried.{Tried}
 use Rattle.pv_inst.specs.Table.{Table}
 use Rattle.pv_shadow.specs.declared.byte.Byte.{Byte}
-use Rattle.pv_shadow.specs.Bytes.{read}
+use Rattle.pv_shadow.specs.Bytes.{bytes_from}
 use Rattle.pv_object.specs.declared.values.Pointer.{Pointer}
 use Rattle.pv_object.specs.declared.values.Reach.{Reach}
 use Rattle.pv_object.specs.declared.values.Scalar.TheVariants as scalar
@@ -19,7 +19,7 @@ use Rattle.pv_object.specs.Access.{fault, reach}
 use Rattle.pv_shadow.specs.Whole.{number_in}
 use Rattle.pv_object.specs.Loading.{Loaded, load, value_of, integer_of, exposed_by}
 use Rattle.pv_libc.specs.declared.values.Note.{Note}
-use Rattle.pv_libc.specs.Steps.{Now, Did, done, halted, next_by, next, about_by, about, reached_by, reached, told, in_table}
+use Rattle.pv_libc.specs.Steps.{Now, Did, answer_now, stop_now, next_by, next, about_by, about, reached_by, reach_for, with_exposures, in_table}
 use Rattle.pv_libc.specs.Characters.{character_of, character_loaded, character_in, character_at, characters_from, too_far, string_from, string_at, most}
 use Rattle.pv_exec.proofs.Memory.Rows.{Sound, Leads, led-itself, led-trans}
 use Rattle.pv_exec.proofs.Memory.Tables.{leading}
@@ -76,10 +76,10 @@ pub record Goes (F : Type 0) (ds : List Bool) (A : Type 0) (V : A → A → Type
   pub walks : (S : Now) (ns : List Note) → Sound F S.memory.table.instances S.memory.table.pairs → Allows ds S.memory.table.pairs → Covers ds S.memory.table.pairs → Walks ds V (f S) (f' (on_now ds ns S))
 
 module _ (F : Type 0) (ds : List Bool) where
-  pub done-goes : {A : Type 0} (V : A → A → Type 0) (a a' : A) → V a a' → Goes F ds A V (done a) (done a')
+  pub done-goes : {A : Type 0} (V : A → A → Type 0) (a a' : A) → V a a' → Goes F ds A V (answer_now a) (answer_now a')
   done-goes V a a' h = record { leads = λ S. led-itself; covers = λ S c. c; walks = λ S ns so al c. (h, al, refl) }
 
-  pub halted-goes : {A : Type 0} (V : A → A → Type 0) (c : _) (x : _) → Goes F ds A V (halted (fault c x)) (halted (fault c x))
+  pub halted-goes : {A : Type 0} (V : A → A → Type 0) (c : _) (x : _) → Goes F ds A V (stop_now (fault c x)) (stop_now (fault c x))
   halted-goes V c x = record { leads = λ S. led-itself; covers = λ S c. c; walks = λ S ns so al c. tt }
 
   pub either-goes : {A : Type 0} (V : A → A → Type 0) (b : Bool) (f f' g g' : Now → Did A) → Goes F ds A V f f' → Goes F ds A V g g' → Goes F ds A V (λ S. cond b (f S) (g S)) (λ S. cond b (f' S) (g' S))
@@ -151,7 +151,7 @@ module _ (F : Type 0) (ds : List Bool) where
           (subst (λ x. Beside ds V d.answer d.after.memory d'.answer x) (sym m') w)))
 
   -- the checks of an access (7.24.1p2, 7.1.4p1)
-  pub reached-goes : (by : Asker) (write : Bool) (p : Pointer) (n n' : Note) (k : ℕ) → Goes F ds Reach (Reaches k) (reached by write (record { pointer = p; stopped = n }) k) (reached by write (record { pointer = p; stopped = n' }) k)
+  pub reached-goes : (by : Asker) (write : Bool) (p : Pointer) (n n' : Note) (k : ℕ) → Goes F ds Reach (Reaches k) (reach_for by write (record { pointer = p; stopped = n }) k) (reach_for by write (record { pointer = p; stopped = n' }) k)
   reached-goes by write p n n' k =
       about-goes (Reaches k) n n' (λ S. reached_by by write (record { pointer = p; stopped = n }) k S (reach S.memory.table p k 1 write by)) (λ S. reached_by by write (record { pointer = p; stopped = n' }) k S (reach S.memory.table p k 1 write by))
       (record {
@@ -185,9 +185,9 @@ module _ (F : Type 0) (ds : List Bool) where
 
   loaded-beside : (S : Now) (ns : List Note) (got got' : Loaded) → Along ds SameFirst got got' → Walks ds Equal (character_loaded S got) (character_loaded (on_now ds ns S) got')
   loaded-beside S ns ((Ok (v, t)), U) ((Ok (v', t')), U') h =
-      beside ds Equal (character_of (Ok (v, t))) (character_of (Ok (v', t'))) (told (in_table S U)).memory (told (in_table (on_now ds ns S) U')).memory
+      beside ds Equal (character_of (Ok (v, t))) (character_of (Ok (v', t'))) (with_exposures (in_table S U)).memory (with_exposures (in_table (on_now ds ns S) U')).memory
       (subst (λ x. Similar Equal (character_of (Ok (v, t))) (character_of (Ok (x, t')))) (sym h.0) (character-same v t t')) h.1 (ap (λ (W : Table). record S.memory { table = record W { pending = [] } }) h.2)
-  loaded-beside S ns ((Ok (v, t)), U) ((Err y'), U') h = lost-beside ds Equal (character_of (Ok (v, t))) (told (in_table S U)).memory y' (told (in_table (on_now ds ns S) U')).memory h.0 h.1
+  loaded-beside S ns ((Ok (v, t)), U) ((Err y'), U') h = lost-beside ds Equal (character_of (Ok (v, t))) (with_exposures (in_table S U)).memory y' (with_exposures (in_table (on_now ds ns S) U')).memory h.0 h.1
   loaded-beside S ns ((Err (stop.Ends (verdict.Undefined f))), U) ((Ok x), U') h = absurd h
   loaded-beside S ns ((Err (stop.Ends (verdict.Undefined f))), U) ((Err y'), U') h = h
   loaded-beside S ns ((Err (stop.Ends verdict.Undecided)), U) (r', U') h = tt
@@ -201,15 +201,15 @@ module _ (F : Type 0) (ds : List Bool) where
   character-goes p n n' a =
       about-goes Equal n n' (λ S. character_loaded S (load S.memory a (scalar.Int UChar))) (λ S. character_loaded S (load S.memory a (scalar.Int UChar)))
       (record {
-        leads = λ S. value-leads (leading F) S.memory (read S.memory.bytes a 1) (scalar.Int UChar);
-        covers = λ S c. value-covers S.memory.table (read S.memory.bytes a 1) c;
-        walks = λ S ns so al c. loaded-beside S ns (load S.memory a (scalar.Int UChar)) (load (on_memory ds S.memory) a (scalar.Int UChar)) (value-along F ds S.memory.table (read S.memory.bytes a 1) (scalar.Int UChar) so al c);
+        leads = λ S. value-leads (leading F) S.memory (bytes_from S.memory.bytes a 1) (scalar.Int UChar);
+        covers = λ S c. value-covers S.memory.table (bytes_from S.memory.bytes a 1) c;
+        walks = λ S ns so al c. loaded-beside S ns (load S.memory a (scalar.Int UChar)) (load (on_memory ds S.memory) a (scalar.Int UChar)) (value-along F ds S.memory.table (bytes_from S.memory.bytes a 1) (scalar.Int UChar) so al c);
       })
 
   pub at-goes : (by : Asker) (p : Pointer) (n n' : Note) (i : ℕ) → Goes F ds ℕ Equal (character_at by (record { pointer = p; stopped = n }) i) (character_at by (record { pointer = p; stopped = n' }) i)
   at-goes by p n n' i =
       let q : Pointer = record p { address = min (p.address + i) (2 ^ 64 - 1) } in
-      next-goes (Reaches 1) Equal (same-reach 1) (reached by false (record { pointer = q; stopped = n }) 1) (reached by false (record { pointer = q; stopped = n' }) 1)
+      next-goes (Reaches 1) Equal (same-reach 1) (reach_for by false (record { pointer = q; stopped = n }) 1) (reach_for by false (record { pointer = q; stopped = n' }) 1)
       (λ r T. character_in (record { pointer = q; stopped = n }) r.address T) (λ r T. character_in (record { pointer = q; stopped = n' }) r.address T)
       (reached-goes by false q n n' 1)
       (λ r r' h. subst (λ a. Goes F ds ℕ Equal (character_in (record { pointer = q; stopped = n }) r.address) (character_in (record { pointer = q; stopped = n' }) a)) (sym h.0) (character-goes q n n' r.address))
@@ -230,10 +230,10 @@ module _ (F : Type 0) (ds : List Bool) where
   strings-go zero by p n n' read = far-goes Equal by p n n'
   strings-go (suc k) by p n n' read =
       next-goes Equal Equal (λ x. refl) (character_at by (record { pointer = p; stopped = n }) (length read)) (character_at by (record { pointer = p; stopped = n' }) (length read))
-      (λ c T. cond (c == 0) (done read T) (string_from k by (record { pointer = p; stopped = n }) (read ++ c ∷ []) T)) (λ c T. cond (c == 0) (done read T) (string_from k by (record { pointer = p; stopped = n' }) (read ++ c ∷ []) T))
+      (λ c T. cond (c == 0) (answer_now read T) (string_from k by (record { pointer = p; stopped = n }) (read ++ c ∷ []) T)) (λ c T. cond (c == 0) (answer_now read T) (string_from k by (record { pointer = p; stopped = n' }) (read ++ c ∷ []) T))
       (at-goes by p n n' (length read))
-      (λ c c' e. subst (λ x. Goes F ds (List ℕ) Equal (λ T. cond (c == 0) (done read T) (string_from k by (record { pointer = p; stopped = n }) (read ++ c ∷ []) T)) (λ T. cond (x == 0) (done read T) (string_from k by (record { pointer = p; stopped = n' }) (read ++ x ∷ []) T))) (sym e)
-      (either-goes Equal (c == 0) (done read) (done read) (string_from k by (record { pointer = p; stopped = n }) (read ++ c ∷ [])) (string_from k by (record { pointer = p; stopped = n' }) (read ++ c ∷ [])) (done-goes Equal read read refl) (strings-go k by p n n' (read ++ c ∷ []))))
+      (λ c c' e. subst (λ x. Goes F ds (List ℕ) Equal (λ T. cond (c == 0) (answer_now read T) (string_from k by (record { pointer = p; stopped = n }) (read ++ c ∷ []) T)) (λ T. cond (x == 0) (answer_now read T) (string_from k by (record { pointer = p; stopped = n' }) (read ++ x ∷ []) T))) (sym e)
+      (either-goes Equal (c == 0) (answer_now read) (answer_now read) (string_from k by (record { pointer = p; stopped = n }) (read ++ c ∷ [])) (string_from k by (record { pointer = p; stopped = n' }) (read ++ c ∷ [])) (done-goes Equal read read refl) (strings-go k by p n n' (read ++ c ∷ []))))
 
   pub text-goes : (by : Asker) (p : Pointer) (n n' : Note) → Goes F ds (List ℕ) Equal (string_at by (record { pointer = p; stopped = n })) (string_at by (record { pointer = p; stopped = n' }))
   text-goes by p n n' = strings-go most by p n n' []

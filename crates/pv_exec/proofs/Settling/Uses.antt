@@ -4,7 +4,7 @@ use Rattle.pv_prov.specs.declared.pairs.Twin.{Twin}
 use Rattle.pv_prov.specs.declared.names.Stands.{Stands}
 use Rattle.pv_prov.specs.declared.names.Prov.{Prov}
 use Rattle.pv_prov.specs.declared.names.Prov.TheVariants.{Empty, Inst, Pair}
-use Rattle.pv_prov.specs.Names.{stands_of, twin_at, alone}
+use Rattle.pv_prov.specs.Names.{stands_of, twin_at, one_candidate}
 use Rattle.pv_prov.specs.NameParts.{those_kept, keeping}
 use Rattle.pv_inst.specs.declared.values.Instance.{Instance}
 use Rattle.pv_inst.specs.declared.values.Test.{Test}
@@ -13,7 +13,7 @@ use Rattle.pv_inst.specs.declared.values.Tried.{Tried}
 use Rattle.pv_inst.specs.declared.values.Miss.{Miss}
 use Rattle.pv_inst.specs.declared.values.Miss.TheVariants.{Ended}
 use Rattle.pv_inst.specs.Table.{Table}
-use Rattle.pv_inst.specs.Use.{survives, any_survives, judged, if_two, miss_of, use_answer, settled}
+use Rattle.pv_inst.specs.Use.{survives, any_survives, test_answer, if_two, miss_of, use_answer, after_use}
 use Rattle.pv_exec.proofs.Settling.Sides.{to_side, on_sides, on_table, holds, Allows, Covers, keeping_of, none-on, IsOnSide, IsBeyond, placed-at, kept-covers}
 
 -- what a use answers and leaves in the two runs: where the settled one misses and the late one doesn't, the late one has dropped the side
@@ -64,7 +64,7 @@ abbrev why : List Instance → Stands → Test → Miss
 why xs s t = cond (any_survives true xs s Live) (miss_of t) Ended
 
 on-side-agrees : (ds : List Bool) (T : Table) (k : ℕ) (w : Twin) (at : IsOnSide ds T.pairs (k - 1) w) (t : Test) (pair pair' : Option ℕ)
-    → Agree ds (judged T.zap T.instances (those_kept w) pair t) (after T k (Some w) (judged T.zap T.instances (those_kept w) pair t)) (judged T.zap T.instances (those_kept (to_side at.side w)) pair' t) (after (on_table ds T) k (Some (to_side at.side w)) (judged T.zap T.instances (those_kept (to_side at.side w)) pair' t))
+    → Agree ds (test_answer T.zap T.instances (those_kept w) pair t) (after T k (Some w) (test_answer T.zap T.instances (those_kept w) pair t)) (test_answer T.zap T.instances (those_kept (to_side at.side w)) pair' t) (after (on_table ds T) k (Some (to_side at.side w)) (test_answer T.zap T.instances (those_kept (to_side at.side w)) pair' t))
 on-side-agrees ds T k w at t pair pair' =
     let xs = T.instances in
     let s = those_kept w in
@@ -79,20 +79,20 @@ on-side-agrees ds T k w at t pair pair' =
     (covered-agree ds T k w at pair pair' m m' at.side refl (survives T.zap xs s.low t) (survives T.zap xs s.high t)))
 
 twin-agrees : (ds : List Bool) (T : Table) (k : ℕ) (t : Test) (o : Option Twin) → twin_at T.pairs k ≡ o → Allows ds T.pairs
-    → Agree ds (judged T.zap T.instances (stands_of o) (if_two k (stands_of o)) t) (after T k o (judged T.zap T.instances (stands_of o) (if_two k (stands_of o)) t)) (use_answer (on_table ds T) (Pair k) t) (settled (on_table ds T) (Pair k) (use_answer (on_table ds T) (Pair k) t))
+    → Agree ds (test_answer T.zap T.instances (stands_of o) (if_two k (stands_of o)) t) (after T k o (test_answer T.zap T.instances (stands_of o) (if_two k (stands_of o)) t)) (use_answer (on_table ds T) (Pair k) t) (after_use (on_table ds T) (Pair k) (use_answer (on_table ds T) (Pair k) t))
 twin-agrees ds T k t None e al =
-    subst (λ o. Agree ds (Err (why T.instances (stands_of None) t)) T (judged T.zap T.instances (stands_of o) (if_two k (stands_of o)) t) (after (on_table ds T) k o (judged T.zap T.instances (stands_of o) (if_two k (stands_of o)) t))) (sym (none-on ds T.pairs (k - 1) e)) tt
+    subst (λ o. Agree ds (Err (why T.instances (stands_of None) t)) T (test_answer T.zap T.instances (stands_of o) (if_two k (stands_of o)) t) (after (on_table ds T) k o (test_answer T.zap T.instances (stands_of o) (if_two k (stands_of o)) t))) (sym (none-on ds T.pairs (k - 1) e)) tt
 twin-agrees ds T k t (Some w) e al = by (placed-at ds T.pairs (k - 1) w al e)
   where
     late : Result Tried Miss
-    late = judged T.zap T.instances (those_kept w) (if_two k (those_kept w)) t
+    late = test_answer T.zap T.instances (those_kept w) (if_two k (those_kept w)) t
 
-    by : IsOnSide ds T.pairs (k - 1) w ⊎ IsBeyond ds T.pairs (k - 1) w → Agree ds late (after T k (Some w) late) (use_answer (on_table ds T) (Pair k) t) (settled (on_table ds T) (Pair k) (use_answer (on_table ds T) (Pair k) t))
+    by : IsOnSide ds T.pairs (k - 1) w ⊎ IsBeyond ds T.pairs (k - 1) w → Agree ds late (after T k (Some w) late) (use_answer (on_table ds T) (Pair k) t) (after_use (on_table ds T) (Pair k) (use_answer (on_table ds T) (Pair k) t))
     by (inl at) =
-        subst (λ o. Agree ds late (after T k (Some w) late) (judged T.zap T.instances (stands_of o) (if_two k (stands_of o)) t) (after (on_table ds T) k o (judged T.zap T.instances (stands_of o) (if_two k (stands_of o)) t))) (sym at.there)
+        subst (λ o. Agree ds late (after T k (Some w) late) (test_answer T.zap T.instances (stands_of o) (if_two k (stands_of o)) t) (after (on_table ds T) k o (test_answer T.zap T.instances (stands_of o) (if_two k (stands_of o)) t))) (sym at.there)
         (on-side-agrees ds T k w at t (if_two k (those_kept w)) (if_two k (those_kept (to_side at.side w))))
     by (inr at) =
-        subst (λ o. Agree ds late (after T k (Some w) late) (judged T.zap T.instances (stands_of o) (if_two k (stands_of o)) t) (after (on_table ds T) k o (judged T.zap T.instances (stands_of o) (if_two k (stands_of o)) t))) (sym at.there)
+        subst (λ o. Agree ds late (after T k (Some w) late) (test_answer T.zap T.instances (stands_of o) (if_two k (stands_of o)) t) (after (on_table ds T) k o (test_answer T.zap T.instances (stands_of o) (if_two k (stands_of o)) t))) (sym at.there)
         (beyond-agree ds T k w at (if_two k (those_kept w)) (if_two k (those_kept w)) (why T.instances (those_kept w) t) (why T.instances (those_kept w) t) (survives T.zap T.instances (those_kept w).low t) (survives T.zap T.instances (those_kept w).high t))
 
 alone-agrees : (ds : List Bool) (T : Table) (b : Bool) (tried : Tried) (m : Miss) → Allows ds T.pairs → Agree ds (cond b (Ok tried) (Err m)) T (cond b (Ok tried) (Err m)) (on_table ds T)
@@ -101,21 +101,21 @@ alone-agrees ds T false tried m al = tt
 
 -- a use of any name, by any test
 pub use-agrees : (ds : List Bool) (T : Table) (p : Prov) (t : Test) → Allows ds T.pairs
-    → Agree ds (use_answer T p t) (settled T p (use_answer T p t)) (use_answer (on_table ds T) p t) (settled (on_table ds T) p (use_answer (on_table ds T) p t))
+    → Agree ds (use_answer T p t) (after_use T p (use_answer T p t)) (use_answer (on_table ds T) p t) (after_use (on_table ds T) p (use_answer (on_table ds T) p t))
 use-agrees ds T Empty Live al = (al, refl)
 use-agrees ds T Empty (Range a n) al = tt
 use-agrees ds T Empty (Block a) al = tt
 use-agrees ds T Empty (Code a) al = tt
 use-agrees ds T (Inst i) t al =
-    alone-agrees ds T (survives T.zap T.instances (Some i) t || false) (record { pair = None; low = survives T.zap T.instances (Some i) t; high = false }) (why T.instances (alone i) t) al
+    alone-agrees ds T (survives T.zap T.instances (Some i) t || false) (record { pair = None; low = survives T.zap T.instances (Some i) t; high = false }) (why T.instances (one_candidate i) t) al
 use-agrees ds T (Pair k) t al = twin-agrees ds T k t (twin_at T.pairs k) refl al
 
-settled-by : (ds : List Bool) (T : Table) (k : ℕ) (r : Result Tried Miss) → Covers ds T.pairs → Covers ds (settled T (Pair k) r).pairs
+settled-by : (ds : List Bool) (T : Table) (k : ℕ) (r : Result Tried Miss) → Covers ds T.pairs → Covers ds (after_use T (Pair k) r).pairs
 settled-by ds T k (Ok tried) c = kept-covers ds T.pairs k tried.low tried.high c
 settled-by ds T k (Err m) c = c
 
 -- and it makes no pair
-pub settled-covers : (ds : List Bool) (T : Table) (p : Prov) (r : Result Tried Miss) → Covers ds T.pairs → Covers ds (settled T p r).pairs
+pub settled-covers : (ds : List Bool) (T : Table) (p : Prov) (r : Result Tried Miss) → Covers ds T.pairs → Covers ds (after_use T p r).pairs
 settled-covers ds T Empty r c = c
 settled-covers ds T (Inst i) r c = c
 settled-covers ds T (Pair k) r c = settled-by ds T k r c

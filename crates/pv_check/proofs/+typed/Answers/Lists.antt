@@ -23,7 +23,7 @@ use Rattle.pv_check.specs.Specifiers.{Seen as WhatIsSeen, with_type}
 use Rattle.pv_check.specs.State.{State, After, give}
 use Rattle.pv_typed.specs.Constants.{and_then}
 use Rattle.pv_check.specs.Stepping.{steps_in, AreSteps}
-use Rattle.pv_check.specs.Tags.{closed_enumeration, completed, enumerated}
+use Rattle.pv_check.specs.Tags.{closed_enumeration, completion_of, enumerator_step}
 use Rattle.pv_check.specs.TagParts.{some_members}
 use Rattle.pv_check.specs.Typing.{members, member_in, member_declarators, member_declarator, enumerators, enumerator_in, enumerator_value}
 use Rattle.pv_check.proofs.Descending.{above_all, has_at, list_above, lower_at}
@@ -40,12 +40,12 @@ first = record { 0 = 0 }
 
 pub listed::composite_listed-returns-in_default-clause-answer : goal.listed::composite_listed-returns-in_default-clause-answer
 listed::composite_listed-returns-in_default-clause-answer t c =
-    ap (λ (o : Option (After ℕ)). and_then o (λ (o : After ℕ). and_then (and_then (members (trees_at c.args.u.now.forest c.args.list) o.state) some_members) (λ m. and_then (completed c.args.union c.args.tag o.value m.value m.state) (λ a. give (with_type (seen_in c.args.into.now.known c.args.seen) a.value) a.state)))) (ap (after_number c.args.t.now.texts c.args.unevaluated c.opened.new.s c.opened.new.into) (sym c.in_default.is) ∙ c.in_ok-number.ensures.answer c.args.t.now.texts c.args.unevaluated)
+    ap (λ (o : Option (After ℕ)). and_then o (λ (o : After ℕ). and_then (and_then (members (trees_at c.args.u.now.forest c.args.list) o.state) some_members) (λ m. and_then (completion_of c.args.union c.args.tag o.value m.value m.state) (λ a. give (with_type (seen_in c.args.into.now.known c.args.seen) a.value) a.state)))) (ap (after_number c.args.t.now.texts c.args.unevaluated c.opened.new.s c.opened.new.into) (sym c.in_default.is) ∙ c.in_ok-number.ensures.answer c.args.t.now.texts c.args.unevaluated)
 
 pub listed::composite_listed-returns-in_default-2-clause-answer : goal.listed::composite_listed-returns-in_default-2-clause-answer
 listed::composite_listed-returns-in_default-2-clause-answer t c =
-    ap (λ (o : Option (After (List Named))). and_then (and_then o some_members) (λ (m : After (List Named)). and_then (completed c.args.union c.args.tag c.in-Some.number m.value m.state) (λ a. give (with_type (seen_in c.args.into.now.known c.args.seen) a.value) a.state))) (ap (after_members c.args.t.now.texts c.args.unevaluated c.members.new.s c.members.new.into) (sym c.in_default-2.is) ∙ c.in_ok-ms.ensures.answer)
-    ∙ ap (λ (o : Option (After ℕ)). and_then o (λ (o : After ℕ). and_then (and_then (members (trees_at c.args.u.now.forest c.args.list) o.state) some_members) (λ m. and_then (completed c.args.union c.args.tag o.value m.value m.state) (λ a. give (with_type (seen_in c.args.into.now.known c.args.seen) a.value) a.state)))) (ap (after_number c.args.t.now.texts c.args.unevaluated c.opened.new.s c.opened.new.into) (sym c.in-Some.is) ∙ c.in_ok-number.ensures.answer c.args.t.now.texts c.args.unevaluated)
+    ap (λ (o : Option (After (List Named))). and_then (and_then o some_members) (λ (m : After (List Named)). and_then (completion_of c.args.union c.args.tag c.in-Some.number m.value m.state) (λ a. give (with_type (seen_in c.args.into.now.known c.args.seen) a.value) a.state))) (ap (after_members c.args.t.now.texts c.args.unevaluated c.members.new.s c.members.new.into) (sym c.in_default-2.is) ∙ c.in_ok-ms.ensures.answer)
+    ∙ ap (λ (o : Option (After ℕ)). and_then o (λ (o : After ℕ). and_then (and_then (members (trees_at c.args.u.now.forest c.args.list) o.state) some_members) (λ m. and_then (completion_of c.args.union c.args.tag o.value m.value m.state) (λ a. give (with_type (seen_in c.args.into.now.known c.args.seen) a.value) a.state)))) (ap (after_number c.args.t.now.texts c.args.unevaluated c.opened.new.s c.opened.new.into) (sym c.in-Some.is) ∙ c.in_ok-number.ensures.answer c.args.t.now.texts c.args.unevaluated)
 
 pub listed::composite_listed-completed_seen-requires-clause-tag : goal.listed::composite_listed-completed_seen-requires-clause-tag
 listed::composite_listed-completed_seen-requires-clause-tag t c =
@@ -63,9 +63,9 @@ pub listed::composite_listed-returns-clause-answer : goal.listed::composite_list
 listed::composite_listed-returns-clause-answer t c =
     let goes = then_goes c.args.into.now c.opened.new.into c.members.new.into c.in_ok-number.ensures.goes (there (λ x. Goes c.opened.new.into c.members.new.into) c.in-Some-2.is c.in_ok-ms.ensures.goes) in
     c.in_ok-r.ensures.answer c.args.t.now.texts c.args.unevaluated
-    ∙ ap (λ (x : WhatIsSeen). and_then (some_members (record { value = members_shown c.members.new.into.known c.in-Some-2.ms; state = (state_of c.args.t.now.texts c.args.unevaluated c.members.new.s c.members.new.into) })) (λ m. and_then (completed c.args.union c.args.tag c.in-Some.number m.value m.state) (λ a. give (with_type x a.value) a.state))) (seen_stays c.args.into.now c.members.new.into c.args.seen goes c.requires.named)
-    ∙ ap (λ (o : Option (After (List Named))). and_then (and_then o some_members) (λ (m : After (List Named)). and_then (completed c.args.union c.args.tag c.in-Some.number m.value m.state) (λ a. give (with_type (seen_in c.args.into.now.known c.args.seen) a.value) a.state))) (ap (after_members c.args.t.now.texts c.args.unevaluated c.members.new.s c.members.new.into) (sym c.in-Some-2.is) ∙ c.in_ok-ms.ensures.answer)
-    ∙ ap (λ (o : Option (After ℕ)). and_then o (λ (o : After ℕ). and_then (and_then (members (trees_at c.args.u.now.forest c.args.list) o.state) some_members) (λ m. and_then (completed c.args.union c.args.tag o.value m.value m.state) (λ a. give (with_type (seen_in c.args.into.now.known c.args.seen) a.value) a.state)))) (ap (after_number c.args.t.now.texts c.args.unevaluated c.opened.new.s c.opened.new.into) (sym c.in-Some.is) ∙ c.in_ok-number.ensures.answer c.args.t.now.texts c.args.unevaluated)
+    ∙ ap (λ (x : WhatIsSeen). and_then (some_members (record { value = members_shown c.members.new.into.known c.in-Some-2.ms; state = (state_of c.args.t.now.texts c.args.unevaluated c.members.new.s c.members.new.into) })) (λ m. and_then (completion_of c.args.union c.args.tag c.in-Some.number m.value m.state) (λ a. give (with_type x a.value) a.state))) (seen_stays c.args.into.now c.members.new.into c.args.seen goes c.requires.named)
+    ∙ ap (λ (o : Option (After (List Named))). and_then (and_then o some_members) (λ (m : After (List Named)). and_then (completion_of c.args.union c.args.tag c.in-Some.number m.value m.state) (λ a. give (with_type (seen_in c.args.into.now.known c.args.seen) a.value) a.state))) (ap (after_members c.args.t.now.texts c.args.unevaluated c.members.new.s c.members.new.into) (sym c.in-Some-2.is) ∙ c.in_ok-ms.ensures.answer)
+    ∙ ap (λ (o : Option (After ℕ)). and_then o (λ (o : After ℕ). and_then (and_then (members (trees_at c.args.u.now.forest c.args.list) o.state) some_members) (λ m. and_then (completion_of c.args.union c.args.tag o.value m.value m.state) (λ a. give (with_type (seen_in c.args.into.now.known c.args.seen) a.value) a.state)))) (ap (after_number c.args.t.now.texts c.args.unevaluated c.opened.new.s c.opened.new.into) (sym c.in-Some.is) ∙ c.in_ok-number.ensures.answer c.args.t.now.texts c.args.unevaluated)
 
 pub listed::members-returns-in_default-clause-answer : goal.listed::members-returns-in_default-clause-answer
 listed::members-returns-in_default-clause-answer t c =
@@ -223,7 +223,7 @@ listed::enumerator_value-returns-in-None-clause-answer t c =
 pub listed::enumerator-returns-in_default-clause-answer : goal.listed::enumerator-returns-in_default-clause-answer
 listed::enumerator-returns-in_default-clause-answer t c =
     let f = c.args.u.now.forest in
-    ap (λ (o : Option (After ℤ)). and_then o (λ (b : After ℤ). enumerated c.in-Enumerator.name b.value b.state)) (ap (after_value c.args.t.now.texts c.args.unevaluated c.enumerator_value.new.s c.enumerator_value.new.into) (sym c.in_default.is) ∙ c.in_ok-k-in-Enumerator.ensures.answer ∙ ap (λ (v : ℤ). enumerator_value (optional_at f c.in-Enumerator.value) v (state_of c.args.t.now.texts c.args.unevaluated c.args.s.now c.args.into.now)) (to_z-of_z w128 c.args.next c.ranges.next))
+    ap (λ (o : Option (After ℤ)). and_then o (λ (b : After ℤ). enumerator_step c.in-Enumerator.name b.value b.state)) (ap (after_value c.args.t.now.texts c.args.unevaluated c.enumerator_value.new.s c.enumerator_value.new.into) (sym c.in_default.is) ∙ c.in_ok-k-in-Enumerator.ensures.answer ∙ ap (λ (v : ℤ). enumerator_value (optional_at f c.in-Enumerator.value) v (state_of c.args.t.now.texts c.args.unevaluated c.args.s.now c.args.into.now)) (to_z-of_z w128 c.args.next c.ranges.next))
     ∙ ap (λ x. enumerator_in x (record { value = c.args.next; state = (state_of c.args.t.now.texts c.args.unevaluated c.args.s.now c.args.into.now) })) (sym c.in-Enumerator.ensures.tree)
 
 pub listed::enumerator-returns-in_ok-r-in-Enumerator-clause-goes : goal.listed::enumerator-returns-in_ok-r-in-Enumerator-clause-goes
@@ -235,8 +235,8 @@ listed::enumerator-returns-in_ok-r-in-Enumerator-clause-answer t c =
     let f = c.args.u.now.forest in
     let k : to_z w128 (of_z w128 c.in-Some.k) ≡ c.in-Some.k = to_z-of_z w128 c.in-Some.k (search rules) in
     c.in_ok-r-in-Enumerator.ensures.answer c.args.t.now.texts c.args.unevaluated
-    ∙ ap (λ (v : ℤ). enumerated c.in-Enumerator.name v (state_of c.args.t.now.texts c.args.unevaluated c.enumerator_value.new.s c.enumerator_value.new.into)) k
-    ∙ ap (λ (o : Option (After ℤ)). and_then o (λ (b : After ℤ). enumerated c.in-Enumerator.name b.value b.state)) (ap (after_value c.args.t.now.texts c.args.unevaluated c.enumerator_value.new.s c.enumerator_value.new.into) (sym c.in-Some.is) ∙ c.in_ok-k-in-Enumerator.ensures.answer ∙ ap (λ (v : ℤ). enumerator_value (optional_at f c.in-Enumerator.value) v (state_of c.args.t.now.texts c.args.unevaluated c.args.s.now c.args.into.now)) (to_z-of_z w128 c.args.next c.ranges.next))
+    ∙ ap (λ (v : ℤ). enumerator_step c.in-Enumerator.name v (state_of c.args.t.now.texts c.args.unevaluated c.enumerator_value.new.s c.enumerator_value.new.into)) k
+    ∙ ap (λ (o : Option (After ℤ)). and_then o (λ (b : After ℤ). enumerator_step c.in-Enumerator.name b.value b.state)) (ap (after_value c.args.t.now.texts c.args.unevaluated c.enumerator_value.new.s c.enumerator_value.new.into) (sym c.in-Some.is) ∙ c.in_ok-k-in-Enumerator.ensures.answer ∙ ap (λ (v : ℤ). enumerator_value (optional_at f c.in-Enumerator.value) v (state_of c.args.t.now.texts c.args.unevaluated c.args.s.now c.args.into.now)) (to_z-of_z w128 c.args.next c.ranges.next))
     ∙ ap (λ x. enumerator_in x (record { value = c.args.next; state = (state_of c.args.t.now.texts c.args.unevaluated c.args.s.now c.args.into.now) })) (sym c.in-Enumerator.ensures.tree)
 
 pub listed::enumerators-enumerator-requires : goal.listed::enumerators-enumerator-requires

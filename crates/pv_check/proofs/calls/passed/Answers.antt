@@ -7,7 +7,7 @@ use Rattle.pv_typed.specs.Known.{Each}
 use Rattle.pv_typed.specs.NodeTrees.{expression_at, IsExpression}
 use Rattle.pv_typed.specs.TypedTree.{TypedTree}
 use Rattle.pv_typed.proofs.Each.{each_at, each_append}
-use Rattle.pv_check.specs.Calls.{passed}
+use Rattle.pv_check.specs.Calls.{passed_arguments}
 use Rattle.pv_check.specs.Kept.{Kept, expression_if}
 use Rattle.pv_check.specs.Passing.{one_passed}
 use Rattle.pv_check.proofs.Keeping.{kept_refl, kept_trans}
@@ -23,7 +23,7 @@ pub loop-i-init : goal.loop-i-init
 loop-i-init c =
     let a = c.args.into.now in
     let e : c.new-list.result.items ≡ [] = search rules in
-    let whole = passed (tys_in (trees a.known) c.args.types.now) c.args.variadic (map (expression_at a) c.args.args.now) in
+    let whole = passed_arguments (tys_in (trees a.known) c.args.types.now) c.args.variadic (map (expression_at a) c.args.args.now) in
     (omega arith, c.requires.known, kept_refl a, subst (λ (xs : List NodeId). Each (IsExpression a) xs) (sym e) tt, ap (λ (xs : List NodeId). joined (map (expression_at a) xs) whole) e ∙ joined_nil whole)
 
 pub argument-requires-clause-types : goal.argument-requires-clause-types
@@ -71,8 +71,8 @@ loop-i-preserved c =
       kept.grown.known c.loop-i.invariant.1,
       kept_trans a m b c.loop-i.invariant.2 kept,
       subst (λ (xs : List NodeId). Each (IsExpression b) xs) (sym c.in_ok-push.ensures.items) (each_append (IsExpression b) c.loop-i.list.items (c.in-Some.x ∷ []) (nodes_known m b c.loop-i.list.items kept.grown c.loop-i.invariant.3) (node, tt)),
-      ap (λ (xs : List NodeId). joined (map (expression_at b) xs) (passed (tys_in (trees a.known) (drop (c.loop-i.i + 1) c.args.types.now)) c.args.variadic (map (expression_at a) (drop (c.loop-i.i + 1) c.args.args.now)))) c.in_ok-push.ensures.items
-          ∙ ap (λ (xs : List TypedTree). joined xs (passed (tys_in (trees a.known) (drop (c.loop-i.i + 1) c.args.types.now)) c.args.variadic (map (expression_at a) (drop (c.loop-i.i + 1) c.args.args.now)))) more
+      ap (λ (xs : List NodeId). joined (map (expression_at b) xs) (passed_arguments (tys_in (trees a.known) (drop (c.loop-i.i + 1) c.args.types.now)) c.args.variadic (map (expression_at a) (drop (c.loop-i.i + 1) c.args.args.now)))) c.in_ok-push.ensures.items
+          ∙ ap (λ (xs : List TypedTree). joined xs (passed_arguments (tys_in (trees a.known) (drop (c.loop-i.i + 1) c.args.types.now)) c.args.variadic (map (expression_at a) (drop (c.loop-i.i + 1) c.args.args.now)))) more
           ∙ passed_on (trees a.known) c.args.types.now c.args.variadic (expression_at a) c.args.args.now c.loop-i.i first lt (map (expression_at m) c.loop-i.list.items) (expression_at b c.in-Some.x) some
           ∙ c.loop-i.invariant.4,
     )

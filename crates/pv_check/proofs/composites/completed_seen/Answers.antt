@@ -5,7 +5,7 @@ use Rattle.pv_check.specs.Seeing.{seen_in}
 use Rattle.pv_check.specs.Specifiers.{with_type, Seen as WhatIsSeen}
 use Rattle.pv_check.specs.State.{After, give}
 use Rattle.pv_typed.specs.Constants.{and_then}
-use Rattle.pv_check.specs.Tags.{completed}
+use Rattle.pv_check.specs.Tags.{completion_of}
 use Rattle.pv_check.proofs.MemberRows.{no_members, has_members}
 use Rattle.pv_check.proofs.SeenRows.{named_after, named_known}
 use Rattle.pv_check.proofs.SpecifierRows.{there, kept}
@@ -23,7 +23,7 @@ returns-in_default-clause-answer c = λ texts u.
     let st = state_of texts u c.args.s.now c.args.into.now in
     let k : After Ty → Option (After WhatIsSeen) = λ a. give (with_type (seen_in m c.args.seen) a.value) a.state in
     ap (λ (o : Option (After Ty)). and_then o k) (ap (after_type texts u c.args.s.now c.completed.new.into) (sym c.in_default.is) ∙ c.in_ok-t.ensures.answer texts u)
-    ∙ has_members m c.args.members st (λ x. and_then (completed c.args.union c.args.name c.args.number x.value x.state) k) some
+    ∙ has_members m c.args.members st (λ x. and_then (completion_of c.args.union c.args.name c.args.number x.value x.state) k) some
 
 pub returns-clause-opened : goal.returns-clause-opened
 returns-clause-opened c = kept c.with_type.result (there (λ k. IsOpen c.completed.new.into c.args.s.now) c.in-Some.is c.in_ok-t.ensures.opened)
@@ -43,4 +43,4 @@ returns-clause-answer c = λ texts u.
     named_after texts u c.args.into.now c.completed.new.into c.args.s.now c.args.seen c.in-Some.t c.with_type.result _
     (there (λ x. Goes c.args.into.now c.completed.new.into) c.in-Some.is c.in_ok-t.ensures.goes) c.requires.named
     (c.with_type.ensures.value c.completed.new.into.known) (ap (after_type texts u c.args.s.now c.completed.new.into) (sym c.in-Some.is) ∙ c.in_ok-t.ensures.answer texts u)
-    ∙ has_members m c.args.members st (λ x. and_then (completed c.args.union c.args.name c.args.number x.value x.state) k) some
+    ∙ has_members m c.args.members st (λ x. and_then (completion_of c.args.union c.args.name c.args.number x.value x.state) k) some

@@ -2,7 +2,7 @@ use Rattle.std.proofs.Common.{Option, nat_lt, sym, ap, ◌∙◌}
 use Rattle.pv_tree.specs.Tables.{as_declarator, optional_at, declarator_at, tree_at, trees_at}
 use Rattle.pv_tree.specs.TreeLines.{tree_line}
 use Rattle.pv_check.specs.Derivations.{Steps}
-use Rattle.pv_check.specs.Forms.{pointed}
+use Rattle.pv_check.specs.Forms.{with_pointer}
 use Rattle.pv_check.specs.Open.{state_of}
 use Rattle.pv_check.specs.State.{After}
 use Rattle.pv_typed.specs.Constants.{and_then}
@@ -14,7 +14,7 @@ pub returns-in-Pointer-clause-answer : goal.returns-in-Pointer-clause-answer
 returns-in-Pointer-clause-answer c = λ texts h.
     let f = c.args.u.now.forest in
     let s = state_of texts h c.args.s.now c.args.into.now in
-    ap (λ (o : Option (After Steps)). and_then o (pointed (nat_lt 0 c.in-Pointer.consts))) (present f c.in-Pointer.declarator s c.in-Pointer.ensures.children.1)
+    ap (λ (o : Option (After Steps)). and_then o (with_pointer (nat_lt 0 c.in-Pointer.consts))) (present f c.in-Pointer.declarator s c.in-Pointer.ensures.children.1)
     ∙ ap (λ x. steps (as_declarator x) s) (sym c.in-Pointer.ensures.tree)
 
 pub returns-in-Array-clause-answer : goal.returns-in-Array-clause-answer

@@ -1,7 +1,7 @@
 use Rattle.std.proofs.Common.{ℕ, true, Some, Option, sym, ap, subst, ◌∙◌}
 use Rattle.pv_types.specs.Known.{tree, env}
 use Rattle.pv_types.specs.Ty.{Ty}
-use Rattle.pv_check.specs.Derivations.{derived, with_parameter}
+use Rattle.pv_check.specs.Derivations.{derived_type, with_parameter}
 use Rattle.pv_check.specs.Growing.{IsType, type_if}
 use Rattle.pv_check.specs.Open.{state_of}
 use Rattle.pv_check.specs.RowParts.{parameter_of}
@@ -32,13 +32,13 @@ returns-in-None-clause-known c =
     let is = ap (type_if k) (sym c.in-Some.is) ∙ c.in_ok-t.ensures.tree in
     let known : IsType k (Some c.in-Some.t) = subst (IsType k) c.in-Some.is c.in_ok-t.ensures.known in
     let m = c.args.into.now.known in
-    (known, tt, adjusted_then (tree k c.in-Some.t.0) (derived true (env m) (steps_in m c.args.steps.now) (tree m c.args.base.0)) is)
+    (known, tt, adjusted_then (tree k c.in-Some.t.0) (derived_type true (env m) (steps_in m c.args.steps.now) (tree m c.args.base.0)) is)
 
 pub named_parameter-requires-clause-adjusted : goal.named_parameter-requires-clause-adjusted
 named_parameter-requires-clause-adjusted c =
     let k = c.parameter_type_in.new.into.known in
     let m = c.args.into.now.known in
-    adjusted_then (tree k c.in-Some.t.0) (derived true (env m) (steps_in m c.args.steps.now) (tree m c.args.base.0)) (ap (type_if k) (sym c.in-Some.is) ∙ c.in_ok-t.ensures.tree)
+    adjusted_then (tree k c.in-Some.t.0) (derived_type true (env m) (steps_in m c.args.steps.now) (tree m c.args.base.0)) (ap (type_if k) (sym c.in-Some.is) ∙ c.in_ok-t.ensures.tree)
 
 pub named_parameter-requires-clause-opened : goal.named_parameter-requires-clause-opened
 named_parameter-requires-clause-opened c = open_goes c.args.into.now c.parameter_type_in.new.into c.args.s.now c.requires.opened c.in_ok-t.ensures.goes

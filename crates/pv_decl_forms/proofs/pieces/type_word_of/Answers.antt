@@ -4,7 +4,7 @@ use Rattle.pv_tree.specs.Syntax.{TypeName, Trees}
 use Rattle.pv_tree.specs.Tables.{is_specifier, Is}
 use Rattle.pv_tree.proofs.Kept.{all_more, all_none, extends_then}
 use Rattle.pv_expr_forms.proofs.Answered.{kept_same, kept_list}
-use Rattle.pv_decl_forms.specs.Pieces.{optional}
+use Rattle.pv_decl_forms.specs.Pieces.{part_if_any}
 use Rattle.pv_decl_forms.specs.Reader.{made_of}
 use Rattle.pv_decl_forms.proofs.Answered.{moved}
 use Rattle.pv_decl_forms.proofs.Listing.{list_made, list_has}
@@ -22,7 +22,7 @@ found_declaration-requires-clause-children c = (
 pub returns-clause-ok : goal.returns-clause-ok
 returns-clause-ok c =
     let listed = list_made c.args.into.now c.add_single.new.self (c.args.spec ∷ []) c.in_ok-specs.specs c.in_ok-specs.ensures.made.0 c.in_ok-specs.ensures.made.1 in
-    moved _ _ _ _ _ _ (ap (λ (ts : Trees). made_of (TypeName c.args.line) ts (optional (drop c.args.at c.args.tokens.now.tokens) None)) listed) c.found_declaration.ensures.ok
+    moved _ _ _ _ _ _ (ap (λ (ts : Trees). made_of (TypeName c.args.line) ts (part_if_any (drop c.args.at c.args.tokens.now.tokens) None)) listed) c.found_declaration.ensures.ok
 
 pub returns-clause-keeps : goal.returns-clause-keeps
 returns-clause-keeps c = extends_then _ _ _ (kept_list c.args.into.now c.add_single.new.self (c.args.spec ∷ []) c.in_ok-specs.ensures.made.0) c.found_declaration.ensures.keeps

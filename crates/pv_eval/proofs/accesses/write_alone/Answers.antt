@@ -4,7 +4,7 @@ use Rattle.pv_fault.specs.declared.faults.Reason.TheVariants.{Overlap}
 use Rattle.pv_types.specs.Known.{Known, tree}
 use Rattle.std.proofs.Common.{Some}
 use Rattle.pv_world.specs.declared.got.Shape.{Shape}
-use Rattle.pv_world.specs.Worths.{undefined}
+use Rattle.pv_world.specs.Worths.{undefined_behaviour}
 use Rattle.pv_world.specs.Telling.{telling}
 use Rattle.pv_world.specs.Doing.{Fails}
 use Rattle.pv_world.specs.Objects.{put_at}
@@ -29,5 +29,5 @@ returns-else-inexact c = λ w0 es us blamed told.
     c.store.ensures
     ∙ ap (λ n. put_at w a (stored_as n c.shape.result v)) numbered
     ∙ ap (λ (s : Shape). put_at w a (stored_as (number_in m (tree m i)) s v)) shaped in
-    stored_alone (is_inexact c.args.from c.args.p.address (size_in m (tree m i))) (Fails (undefined OverlappingAssignment Overlap) (Some c.args.p.prov) w (telling us)) v w0
+    stored_alone (is_inexact c.args.from c.args.p.address (size_in m (tree m i))) (Fails (undefined_behaviour OverlappingAssignment Overlap) (Some c.args.p.prov) w (telling us)) v w0
     (put_at w a (stored_as (number_in m (tree m i)) (shape_of (tree m i)) v)) c.store.new.self es us c.args.told.now.items test stored told

@@ -1,5 +1,5 @@
 use Rattle.std.proofs.Common.{◌∷◌, sym, ap, ◌∙◌, subst, length}
-use Rattle.pv_seq.specs.Sequencing.{opened}
+use Rattle.pv_seq.specs.Sequencing.{open_against}
 use Rattle.pv_typed.specs.TypedTree.{type_of}
 use Rattle.pv_typed.specs.NodeTrees.{expression_at}
 use Rattle.pv_typed.specs.Nodes.{form_in}
@@ -20,7 +20,7 @@ returns-in-None-clause-led c = λ b out es hs hl call j js lt.
     let x = expression_at u c.args.n in
     led-from b call u _ _ c.begin_leaf.result _ _
     (begun-leaf b call u c.args.n c.node-x.result j.foes (state_of c.args.moment.now out es) (state_of c.tick.new.self out es) c.node-x.ensures.form c.requires.counts lt (ap (λ m. state_of m out es) c.tick.ensures))
-    (subst (λ l. Led b call u (ev_form b call (type_of x) l (form_in u.lists (nodes u) c.node-x.result) j.foes (state_of c.tick.new.self out es)) c.begin_leaf.result (opened j.foes ∷ js) (state_of c.begin_leaf.new.moment out es)) (c.line_of.ensures.expression c.requires.there)
+    (subst (λ l. Led b call u (ev_form b call (type_of x) l (form_in u.lists (nodes u) c.node-x.result) j.foes (state_of c.tick.new.self out es)) c.begin_leaf.result (open_against j.foes ∷ js) (state_of c.begin_leaf.new.moment out es)) (c.line_of.ensures.expression c.requires.there)
     (c.begin_leaf.ensures.led b out es (setting-ticked b u c.args.moment.now c.tick.new.self c.tick.ensures hs) (subst (λ m. Follows m (length out)) (sym c.tick.ensures) hl) call (type_of x) j js))
 
 pub returns-in-Some-clause-total : goal.returns-in-Some-clause-total

@@ -11,7 +11,7 @@ use Rattle.pv_eval.proofs.Cases.{led-from}
 use Rattle.pv_eval.proofs.Accessing.{access-then}
 use Rattle.std.specs.Prelude.{if◌then◌else◌}
 use Rattle.pv_eval.specs.States.{then_do}
-use Rattle.pv_eval.specs.Sequenced.{done}
+use Rattle.pv_eval.specs.Sequenced.{node_value}
 use Rattle.pv_eval.specs.Steps.{is_after, stepping, writing}
 use Rattle.pv_eval.proofs.Cases.{stays_both}
 use Rattle.pv_eval.proofs.compound.increment.Goals as goal
@@ -24,7 +24,7 @@ returns-clause-led c = λ b out es hs hl call.
     let u = c.args.unit.now in
     let s1 = c.in-Ok.ensures.stays in
     led-from b call u _ _ c.step_and_keep.result c.step_and_keep.new.journal (state_of c.step_and_keep.new.moment out es)
-    ((access-then b u c.args.moment.now (λ b. access_to (lvalue b (type_of (expression_at u c.args.a))) (pointer_of (worth_of c.args.place)) false) _ c.args.journal.now c.read.new.journal _ hs c.in-Ok.value (λ j v s. then_do (stepping b c.args.line (type_of (expression_at u c.args.n)) c.args.o v s) (λ w s. writing b (lvalue b (type_of (expression_at u c.args.a))) c.args.line (worth_of c.args.place) w None j s (λ j w s. done j (if is_after c.args.o then v else w) s))) (c.in-Ok.ensures.acted b out es hs hl) c.in-Ok.ensures.noted))
+    ((access-then b u c.args.moment.now (λ b. access_to (lvalue b (type_of (expression_at u c.args.a))) (pointer_of (worth_of c.args.place)) false) _ c.args.journal.now c.read.new.journal _ hs c.in-Ok.value (λ j v s. then_do (stepping b c.args.line (type_of (expression_at u c.args.n)) c.args.o v s) (λ w s. writing b (lvalue b (type_of (expression_at u c.args.a))) c.args.line (worth_of c.args.place) w None j s (λ j w s. node_value j (if is_after c.args.o then v else w) s))) (c.in-Ok.ensures.acted b out es hs hl) c.in-Ok.ensures.noted))
     (c.step_and_keep.ensures.led b out es (setting-stays b u _ _ s1 hs) (before-stays _ _ out s1 hl) call)
 
 pub returns-clause-stays : goal.returns-clause-stays

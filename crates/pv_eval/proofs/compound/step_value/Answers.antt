@@ -6,7 +6,7 @@ use Rattle.pv_typed.specs.NodeTrees.{expression_at}
 use Rattle.pv_world.specs.Coming.{worth_of}
 use Rattle.pv_world.specs.Worths.{int}
 use Rattle.pv_eval.specs.TypeForms.{kind_of, element_size}
-use Rattle.pv_num.specs.Kinds.{promoted}
+use Rattle.pv_num.specs.Kinds.{promotion_of}
 use Rattle.pv_eval.specs.Operations.{Moves, act}
 use Rattle.pv_eval.specs.Steps.{combining}
 use Rattle.pv_eval.specs.Moments.{Came, state_of}
@@ -34,8 +34,8 @@ returns-else-is_pointer-clause-came c = λ b out es hs hl.
     let s1 = state_of c.combine.new.moment out es in
     let v = worth_of c.args.v in
     subst (λ r. Came r c.combine.result s1) (sym (step-integer b c.args.line t c.args.o v s (sym c.is_pointer.ensures ∙ c.if-is_pointer.false)))
-    (subst (λ x. Came (combining b c.args.line x (promoted (kind_of t)) (kind_of t) v (int (pos 1)) s) c.combine.result s1) c.operator.ensures
-    (subst (λ k. Came (combining b c.args.line c.operator.result (promoted k) k v (int (pos 1)) s) c.combine.result s1) c.kind-kind.ensures
+    (subst (λ x. Came (combining b c.args.line x (promotion_of (kind_of t)) (kind_of t) v (int (pos 1)) s) c.combine.result s1) c.operator.ensures
+    (subst (λ k. Came (combining b c.args.line c.operator.result (promotion_of k) k v (int (pos 1)) s) c.combine.result s1) c.kind-kind.ensures
     (subst (λ k. Came (combining b c.args.line c.operator.result k c.kind-kind.result v (int (pos 1)) s) c.combine.result s1) c.promoted.ensures
     (subst (λ w. Came (combining b c.args.line c.operator.result c.promoted.result c.kind-kind.result v w s) c.combine.result s1) c.integer-one.ensures
     (c.combine.ensures.came b out es hs hl)))))

@@ -1,7 +1,7 @@
 use Rattle.std.proofs.Common.{sym, ap, ◌∙◌, ◌∷◌, arith, length}
 use Rattle.std.specs.Prelude.{map}
 use Rattle.std.proofs.lemmas.Grind.{common_steps}
-use Rattle.pv_seq.specs.Sequencing.{opened}
+use Rattle.pv_seq.specs.Sequencing.{open_against}
 use Rattle.pv_typed.specs.TypedTree.{Arguments, form_of}
 use Rattle.pv_typed.specs.Nodes.{arguments_in}
 use Rattle.pv_typed.specs.Tables.{nodes}
@@ -21,9 +21,9 @@ returns-then-i-children-clause-led c = λ b out es hs hl call fs js.
     let u = c.args.unit.now in
     let xs : Arguments = arguments_in (nodes u) (list_at u c.args.l) in
     let s = state_of c.args.moment.now out es in
-    ap (λ g. ev_ask b call c.args.line c.args.f g xs (opened fs) s) (sym (ap (λ z. asked_with xs (map worth_of z)) c.new-got.ensures.items ∙ asked-none xs))
-    ∙ ap (λ k. ev_ask b call c.args.line c.args.f (asked_with xs (map worth_of c.new-got.result.items)) (arguments_from xs k) (opened fs) s) (sym (ap length c.new-got.ensures.items))
-    ∙ sym (next-asked b call u c.args.n c.args.line c.len-i.result c.args.f c.args.l c.new-got.result c.children-children.result.now c.children-children.ensures (grind (arith, common_steps)) (opened fs) s c.requires.form c.requires.line c.if-i-children.true)
+    ap (λ g. ev_ask b call c.args.line c.args.f g xs (open_against fs) s) (sym (ap (λ z. asked_with xs (map worth_of z)) c.new-got.ensures.items ∙ asked-none xs))
+    ∙ ap (λ k. ev_ask b call c.args.line c.args.f (asked_with xs (map worth_of c.new-got.result.items)) (arguments_from xs k) (open_against fs) s) (sym (ap length c.new-got.ensures.items))
+    ∙ sym (next-asked b call u c.args.n c.args.line c.len-i.result c.args.f c.args.l c.new-got.result c.children-children.result.now c.children-children.ensures (grind (arith, common_steps)) (open_against fs) s c.requires.form c.requires.line c.if-i-children.true)
 
 pub returns-else-i-children-clause-led : goal.returns-else-i-children-clause-led
 unfolding ev
@@ -31,11 +31,11 @@ returns-else-i-children-clause-led c = λ b out es hs hl call fs js.
     let u = c.args.unit.now in
     let xs : Arguments = arguments_in (nodes u) (list_at u c.args.l) in
     let s = state_of c.args.moment.now out es in
-    led-from b call u _ _ c.give.result (opened fs ∷ js) _
-    (ap (λ g. ev_ask b call c.args.line c.args.f g xs (opened fs) s) (sym (ap (λ z. asked_with xs (map worth_of z)) c.new-got.ensures.items ∙ asked-none xs))
-    ∙ ap (λ k. ev_ask b call c.args.line c.args.f (asked_with xs (map worth_of c.new-got.result.items)) (arguments_from xs k) (opened fs) s) (sym (ap length c.new-got.ensures.items))
-    ∙ all-asked b call u c.args.n c.args.line c.len-i.result c.args.f c.args.l c.new-got.result c.children-children.result.now c.children-children.ensures (grind (arith, common_steps)) (opened fs) s (omega (arith, c.if-i-children.false)))
-    (rw c.give.ensures (came-given b call u c.ask.result _ (opened fs ∷ js) _ (c.ask.ensures.acted b out es hs hl)))
+    led-from b call u _ _ c.give.result (open_against fs ∷ js) _
+    (ap (λ g. ev_ask b call c.args.line c.args.f g xs (open_against fs) s) (sym (ap (λ z. asked_with xs (map worth_of z)) c.new-got.ensures.items ∙ asked-none xs))
+    ∙ ap (λ k. ev_ask b call c.args.line c.args.f (asked_with xs (map worth_of c.new-got.result.items)) (arguments_from xs k) (open_against fs) s) (sym (ap length c.new-got.ensures.items))
+    ∙ all-asked b call u c.args.n c.args.line c.len-i.result c.args.f c.args.l c.new-got.result c.children-children.result.now c.children-children.ensures (grind (arith, common_steps)) (open_against fs) s (omega (arith, c.if-i-children.false)))
+    (rw c.give.ensures (came-given b call u c.ask.result _ (open_against fs ∷ js) _ (c.ask.ensures.acted b out es hs hl)))
 
 pub returns-then-i-children-clause-fits : goal.returns-then-i-children-clause-fits
 returns-then-i-children-clause-fits c =

@@ -1,7 +1,7 @@
 use Rattle.std.proofs.Common.{All, None, sym, ap, ◌∙◌, subst}
 use Rattle.pv_inst.specs.Table.{IsMadeIn}
 use Rattle.pv_shadow.specs.declared.byte.Byte.{Byte}
-use Rattle.pv_shadow.specs.Whole.{plain}
+use Rattle.pv_shadow.specs.Whole.{number_bytes}
 use Rattle.pv_world.proofs.Literals.{plain_made}
 use Rattle.pv_eval.proofs.Possible.{text_so}
 use Rattle.pv_eval.proofs.objects.put_text.Goals as goal
@@ -15,5 +15,5 @@ pub returns : goal.returns
 returns c = λ told.
     text_so c.args.unit.now c.args.o c.object-lasting.result _ c.object-lasting.ensures.object c.args.t.0 c.args.offset c.args.literal c.literal.result.now c.literal.ensures
     c.types.result.now c.in-Some.size c.deref.result.now c.args.world.now c.put_characters.new.world told
-    c.types.ensures c.in-Some.ensures (c.deref.ensures.value ∙ c.in_ok-bytes.ensures.bytes ∙ ap (plain None 0) c.first.ensures)
+    c.types.ensures c.in-Some.ensures (c.deref.ensures.value ∙ c.in_ok-bytes.ensures.bytes ∙ ap (number_bytes None 0) c.first.ensures)
     (c.put_characters.ensures told)

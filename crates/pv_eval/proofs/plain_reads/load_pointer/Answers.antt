@@ -1,5 +1,5 @@
 use Rattle.std.proofs.Common.{◌∙◌, false, sym, ap}
-use Rattle.pv_shadow.specs.Bytes.{read}
+use Rattle.pv_shadow.specs.Bytes.{bytes_from}
 use Rattle.pv_object.specs.Loads.{whole_pointer}
 use Rattle.pv_object.specs.Memory.{Mem}
 use Rattle.pv_types.specs.Known.{tree}
@@ -21,5 +21,5 @@ returns c =
     ∙ (sym c.in-Ok-true.ensures ∙ c.in-Ok-true.field-0-test) in
     pointer_some u w t (pointer_at c.args.p) c.in_ok-target.target.reach 8 c.args.x.align c.in_ok-there.there c.pointed.result c.requires.form (lvalue_fits u c.args.x.l c.requires.complete)
     (sym c.if-x-ne8.false ∙ c.requires.complete.size) c.requires.align c.in_ok-target.ensures.reached permitted (c.is_told.ensures c.if-not-is_told.false)
-    (ap (λ (m : Mem). whole_pointer (read m.bytes c.in_ok-target.target.reach.address 8)) (sym c.memory.ensures) ∙ sym c.whole_pointer.ensures.answer ∙ c.in_ok-there.was)
+    (ap (λ (m : Mem). whole_pointer (bytes_from m.bytes c.in_ok-target.target.reach.address 8)) (sym c.memory.ensures) ∙ sym c.whole_pointer.ensures.answer ∙ c.in_ok-there.was)
     c.pointed.ensures.value c.pointed.ensures.looked

@@ -2,7 +2,7 @@ use Rattle.std.proofs.Common.{◌≡◌, ◌∷◌, false, sym, ap, ◌∙◌, s
 use Rattle.std.specs.Prelude.{OnOk}
 use Rattle.pv_types.specs.Known.{tree}
 use Rattle.pv_object.specs.declared.values.Pointer.{Pointer}
-use Rattle.pv_seq.specs.Sequencing.{Access, noted, rivals}
+use Rattle.pv_seq.specs.Sequencing.{Access, with_access, rivals}
 use Rattle.pv_seq.specs.SequencingParts.{access_of}
 use Rattle.pv_seq.specs.Rivals.{top, below}
 use Rattle.pv_world.specs.Worths.{pointer_of}
@@ -37,7 +37,7 @@ returns-then-knows-clause-noted c =
     let l = lvalue (setting_of u) (tree u.known c.args.l.t.0) in
     let w = c.args.world.now in
     let place = worth_of c.args.place.now in
-    let P : Access → Type 0 = λ a. OnOk c.read_from.result (c.read_from.new.journal ≡ noted a (top c.args.journal.now) ∷ below c.args.journal.now) in
+    let P : Access → Type 0 = λ a. OnOk c.read_from.result (c.read_from.new.journal ≡ with_access a (top c.args.journal.now) ∷ below c.args.journal.now) in
     subst P (ap (λ (q : Pointer). access_of q.address c.args.l.size false) c.pointer_of.ensures.value ∙ ap (λ n. access_of (pointer_of place).address n false) c.requires.complete.size)
     c.read_from.ensures.noted
 

@@ -2,7 +2,7 @@ use Rattle.std.proofs.Common.{◌≡◌, ℕ, ◌∷◌, true, sym, ap, ◌∙�
 use Rattle.std.specs.Prelude.{OnOk, ◌&&◌}
 use Rattle.pv_types.specs.Known.{Known, tree}
 use Rattle.pv_object.specs.declared.values.Pointer.{Pointer}
-use Rattle.pv_seq.specs.Sequencing.{Access, noted, rivals}
+use Rattle.pv_seq.specs.Sequencing.{Access, with_access, rivals}
 use Rattle.pv_seq.specs.SequencingParts.{access_of}
 use Rattle.pv_seq.specs.Rivals.{top, below}
 use Rattle.pv_world.specs.declared.got.Shape.{Shape}
@@ -10,7 +10,7 @@ use Rattle.pv_world.specs.Worlds.{Worth}
 use Rattle.pv_world.specs.Worths.{pointer_of}
 use Rattle.pv_world.specs.Doing.{Done}
 use Rattle.pv_world.specs.Preconditions.{IsStored, HasSizeOf}
-use Rattle.pv_world.specs.Coming.{Did, Came, seen, worth_of}
+use Rattle.pv_world.specs.Coming.{Did, Came, coming_of, worth_of}
 use Rattle.pv_eval.specs.TypeForms.{lvalue, shape_of}
 use Rattle.pv_world.specs.Suiting.{is_stored, knows_worth}
 use Rattle.pv_eval.specs.Sizes.{setting_of, size_in}
@@ -65,7 +65,7 @@ returns-then-can_write-clause-did c =
     let P : Pointer → Type 0 = λ p. Did worth_of (λ x. writes_to (setting_of u) l p c.args.from rs x v) r w c.write_to.new.world c.args.told.now.items c.write_to.new.told.items in
     let did = subst P c.pointer_of.ensures.value c.write_to.ensures.did in
     let go : Worth → Done = writes_to (setting_of u) l (pointer_of place) c.args.from rs w in
-    let Q : Done → Type 0 = λ d. Came worth_of r c.write_to.new.world c.write_to.new.told.items (seen c.args.told.now.items w d) in
+    let Q : Done → Type 0 = λ d. Came worth_of r c.write_to.new.world c.write_to.new.told.items (coming_of c.args.told.now.items w d) in
     suited worth_of (setting_of u) (Writes l place v c.args.from (rivals (top c.args.journal.now))) w r _ _ _ known (subst Q (sym (stored_present _ _ v w go stored)) did)
 
 pub returns-then-can_write-clause-noted : goal.returns-then-can_write-clause-noted
@@ -74,7 +74,7 @@ returns-then-can_write-clause-noted c =
     let l = lvalue (setting_of u) (tree u.known c.args.l.t.0) in
     let w = c.args.world.now in
     let place = worth_of c.args.place.now in
-    let P : Access → Type 0 = λ a. OnOk c.write_to.result (c.write_to.new.journal ≡ noted a (top c.args.journal.now) ∷ below c.args.journal.now) in
+    let P : Access → Type 0 = λ a. OnOk c.write_to.result (c.write_to.new.journal ≡ with_access a (top c.args.journal.now) ∷ below c.args.journal.now) in
     subst P (ap (λ (q : Pointer). access_of q.address c.args.l.size true) c.pointer_of.ensures.value ∙ ap (λ n. access_of (pointer_of place).address n true) c.requires.complete.size)
     c.write_to.ensures.noted
 

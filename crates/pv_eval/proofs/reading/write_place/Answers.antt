@@ -3,7 +3,7 @@ use Rattle.std.specs.Prelude.{OnOk, ◌&&◌}
 use Rattle.pv_types.specs.declared.terms.TypeId.{TypeId}
 use Rattle.pv_types.specs.Known.{Known, tree, env}
 use Rattle.pv_types.specs.Layouts.{is_complete_in}
-use Rattle.pv_seq.specs.Sequencing.{noted, rivals}
+use Rattle.pv_seq.specs.Sequencing.{with_access, rivals}
 use Rattle.pv_seq.specs.Rivals.{top, below}
 use Rattle.pv_world.specs.Worths.{pointer_of}
 use Rattle.pv_world.specs.Coming.{Did, worth_of}
@@ -32,7 +32,7 @@ pub returns-in-Some-clause-noted : goal.returns-in-Some-clause-noted
 returns-in-Some-clause-noted c =
     let u = c.args.unit.now in
     let place = worth_of c.args.place.now in
-    let P : TypeId → Type 0 = λ x. OnOk c.write_known.result (c.write_known.new.journal ≡ noted (access_to (lvalue (setting_of u) (tree u.known x.0)) (pointer_of place) true) (top c.args.journal.now) ∷ below c.args.journal.now) in
+    let P : TypeId → Type 0 = λ x. OnOk c.write_known.result (c.write_known.new.journal ≡ with_access (access_to (lvalue (setting_of u) (tree u.known x.0)) (pointer_of place) true) (top c.args.journal.now) ∷ below c.args.journal.now) in
     subst P c.in-Some.ensures.same c.write_known.ensures.noted
 
 pub returns-in-None-clause-did : goal.returns-in-None-clause-did

@@ -2,7 +2,7 @@ use Rattle.std.proofs.Common.{◌+◌, ap, sym, ◌∙◌, ◌∷◌, length, su
 use Rattle.std.specs.Prelude.{Ok, Err}
 use Rattle.pv_typed.specs.NodeTrees.{expression_at}
 use Rattle.pv_eval.specs.Evaluation.{ev}
-use Rattle.pv_seq.specs.Sequencing.{opened}
+use Rattle.pv_seq.specs.Sequencing.{open_against}
 use Rattle.pv_seq.specs.Rivals.{top, below}
 use Rattle.pv_eval.specs.declared.frames.Move.TheVariants.{Give}
 use Rattle.pv_eval.specs.Moments.{state_of}
@@ -19,7 +19,7 @@ returns-in-Give-clause-kept c = λ b out es hs hl call lt.
     led-kept b call u _ _ c.unwind-in-Give.result c.unwind-in-Give.new.frames.items c.unwind-in-Give.new.journal _
     (ap (λ p. ahead b call u c.args.frames.now.items c.args.journal.now p (state_of c.args.moment.now out es)) c.in-Due.is
     ∙ c.in-Ok.ensures.same b call (state_of c.args.moment.now out es)
-    ∙ begun-on b call u c.descend.new.frames.items js c.in-Ok.n (state_of c.args.moment.now out es) c.in-Ok.ensures.fresh (Give c.in-Give.v) (state_of c.begin.new.moment out es) (subst (λ m. Led b call u (ev b call (expression_at u c.in-Ok.n) (top js).foes (state_of c.args.moment.now out es)) (Ok m) (opened (top js).foes ∷ below js) (state_of c.begin.new.moment out es)) c.in-Give.is (c.in-Ok-begin.ensures.led b out es hs hl call (top js) (below js) (lt (ap is_due_at c.in-Due.is)))))
+    ∙ begun-on b call u c.descend.new.frames.items js c.in-Ok.n (state_of c.args.moment.now out es) c.in-Ok.ensures.fresh (Give c.in-Give.v) (state_of c.begin.new.moment out es) (subst (λ m. Led b call u (ev b call (expression_at u c.in-Ok.n) (top js).foes (state_of c.args.moment.now out es)) (Ok m) (open_against (top js).foes ∷ below js) (state_of c.begin.new.moment out es)) c.in-Give.is (c.in-Ok-begin.ensures.led b out es hs hl call (top js) (below js) (lt (ap is_due_at c.in-Due.is)))))
     (c.unwind-in-Give.ensures.kept b out es (setting-begun b u _ _ c.begin.ensures.sides hs) (c.begin.ensures.total (length out) hl) call)
 
 pub returns-in_default : goal.returns-in_default
@@ -57,4 +57,4 @@ returns-in-Err-begin-clause-kept c = λ b out es hs hl call lt.
     led-kept b call u _ _ (Err c.in-Err-begin.e) c.descend.new.frames.items js (state_of c.begin.new.moment out es)
     (ap (λ p. ahead b call u c.args.frames.now.items c.args.journal.now p (state_of c.args.moment.now out es)) c.in-Due.is
     ∙ c.in-Ok.ensures.same b call (state_of c.args.moment.now out es))
-    (begun-out b call u c.descend.new.frames.items js c.in-Ok.n (state_of c.args.moment.now out es) c.in-Ok.ensures.fresh c.in-Err-begin.e (opened (top js).foes ∷ below js) js c.descend.new.frames.items (state_of c.begin.new.moment out es) (c.in-Err-begin.ensures.led b out es hs hl call (top js) (below js) (lt (ap is_due_at c.in-Due.is))))
+    (begun-out b call u c.descend.new.frames.items js c.in-Ok.n (state_of c.args.moment.now out es) c.in-Ok.ensures.fresh c.in-Err-begin.e (open_against (top js).foes ∷ below js) js c.descend.new.frames.items (state_of c.begin.new.moment out es) (c.in-Err-begin.ensures.led b out es hs hl call (top js) (below js) (lt (ap is_due_at c.in-Due.is))))

@@ -1,7 +1,7 @@
 use Rattle.std.proofs.Common.{subst}
 use Rattle.pv_seq.specs.Rivals.{top}
 use Rattle.pv_eval.specs.Operations.{Equals}
-use Rattle.pv_eval.specs.Ahead.{Led, given}
+use Rattle.pv_eval.specs.Ahead.{Led, move_of}
 use Rattle.pv_eval.specs.Sequenced.{work}
 use Rattle.pv_world.specs.Coming.{worth_of}
 use Rattle.pv_eval.specs.Moments.{state_of}
@@ -17,7 +17,7 @@ returns-clause-led c = λ b out es hs hl call js.
     let s1 = c.in-Ok.ensures.stays in
     led-then b call c.args.unit.now _ _ _ _ c.give.result js _ (c.in-Ok.ensures.came b out es hs hl)
     (rw c.give.ensures
-    (subst (λ t. Led b call c.args.unit.now (work b c.args.line (Equals t (worth_of c.args.v) (worth_of c.in-Ok.w)) (top js) (state_of c.convert.new.moment out es)) (given c.equal.result) js (state_of c.equal.new.self out es)) c.unequal.ensures
+    (subst (λ t. Led b call c.args.unit.now (work b c.args.line (Equals t (worth_of c.args.v) (worth_of c.in-Ok.w)) (top js) (state_of c.convert.new.moment out es)) (move_of c.equal.result) js (state_of c.equal.new.self out es)) c.unequal.ensures
     (came-given b call c.args.unit.now c.equal.result _ js _ (c.equal.ensures.acted b out es (setting-stays b c.args.unit.now _ _ s1 hs) (before-stays _ _ out s1 hl)))))
 
 pub returns-clause-stays : goal.returns-clause-stays

@@ -9,7 +9,7 @@ use Rattle.std.specs.Prelude.{false}
 use Rattle.pv_eval.specs.Sequenced.{work}
 use Rattle.pv_world.specs.Coming.{worth_of}
 use Rattle.pv_eval.specs.Moments.{state_of}
-use Rattle.pv_eval.specs.Ahead.{Led, given}
+use Rattle.pv_eval.specs.Ahead.{Led, move_of}
 use Rattle.pv_eval.proofs.Cases.{came-given}
 use Rattle.pv_eval.proofs.Given.{second-alone}
 use Rattle.pv_eval.proofs.second_values.resume_second.Goals as goal
@@ -24,7 +24,7 @@ pub returns-in-PointerDifference-clause-led : goal.returns-in-PointerDifference-
 returns-in-PointerDifference-clause-led c = λ b out es hs hl call.
     let u = c.args.unit.now in
     rw (c.in-PointerDifference.is, c.give.ensures, ← (c.line_of-line.ensures.expression c.requires.there))
-    (subst (λ t. Led b call u (work b c.line_of-line.result (Subtracts (element_size b t) (worth_of c.args.v) (worth_of c.args.w)) (top c.args.journal.now) (state_of c.args.moment.now out es)) (given c.subtract.result) c.args.journal.now (state_of c.subtract.new.self out es)) c.type_of.ensures.tree
+    (subst (λ t. Led b call u (work b c.line_of-line.result (Subtracts (element_size b t) (worth_of c.args.v) (worth_of c.args.w)) (top c.args.journal.now) (state_of c.args.moment.now out es)) (move_of c.subtract.result) c.args.journal.now (state_of c.subtract.new.self out es)) c.type_of.ensures.tree
     (came-given b call u c.subtract.result _ c.args.journal.now _ (c.subtract.ensures.acted b out es hs hl)))
 
 pub returns-in-PointerOrder-clause-led : goal.returns-in-PointerOrder-clause-led
@@ -37,7 +37,7 @@ pub returns-in-Subscript-clause-led : goal.returns-in-Subscript-clause-led
 returns-in-Subscript-clause-led c = λ b out es hs hl call.
     let u = c.args.unit.now in
     rw (c.in-Subscript.is, c.give-in-Subscript.ensures, ← (c.line_of-line.ensures.expression c.requires.there), ← c.is_pointer-first.ensures)
-    (subst (λ t. Led b call u (work b c.line_of-line.result (Moves false c.is_pointer-first.result (element_size b t) (worth_of c.args.v) (worth_of c.args.w)) (top c.args.journal.now) (state_of c.args.moment.now out es)) (given c.shift.result) c.args.journal.now (state_of c.shift.new.self out es)) c.pointer_type-t.ensures.tree
+    (subst (λ t. Led b call u (work b c.line_of-line.result (Moves false c.is_pointer-first.result (element_size b t) (worth_of c.args.v) (worth_of c.args.w)) (top c.args.journal.now) (state_of c.args.moment.now out es)) (move_of c.shift.result) c.args.journal.now (state_of c.shift.new.self out es)) c.pointer_type-t.ensures.tree
     (came-given b call u c.shift.result _ c.args.journal.now _ (c.shift.ensures.acted b out es hs hl)))
 
 pub returns-in-PointerEquality-clause-led : goal.returns-in-PointerEquality-clause-led

@@ -2,7 +2,7 @@ use Rattle.std.proofs.Common.{List, ◌∙◌, ap, sym, arith, Err}
 use Rattle.std.specs.Prelude.{drop, map, ℕ}
 use Rattle.std.proofs.lemmas.List.{length-map}
 use Rattle.pv_typed.specs.TypedUnits.{function_at}
-use Rattle.pv_typed.specs.Tables.{whole}
+use Rattle.pv_typed.specs.Tables.{whole_unit}
 use Rattle.pv_world.specs.Coming.{worth_of}
 use Rattle.pv_eval.specs.Moments.{state_of}
 use Rattle.pv_exec.specs.Calls.{take_params}
@@ -37,7 +37,7 @@ returns-in-Err-clause-made c = λ b out es hs hl.
     let vs = map worth_of c.args.arguments.now in
     let v = worth_of c.index-arguments-i.result in
     let d = argument-at c.args.arguments.now i c.index-arguments-i.result (omega (arith, c.if-i-arguments.false)) c.index-arguments-i.is in
-    made-is (take_params b c.args.line (drop i ps) (drop i vs) (state_of mid out es)) (take_params b c.args.line (function_at (whole u) c.args.f).params vs (state_of old out es)) (Err c.in-Err.e) (state_of new out es)
+    made-is (take_params b c.args.line (drop i ps) (drop i vs) (state_of mid out es)) (take_params b c.args.line (function_at (whole_unit u) c.args.f).params vs (state_of old out es)) (Err c.in-Err.e) (state_of new out es)
     (ap (λ (xs : List ℕ). take_params b c.args.line xs vs (state_of old out es)) (sym c.params_of-params.ensures.params) ∙ c.parameters.invariant.made b out es hs hl)
     (params-stop b c.args.line ps vs i v c.in-Err.e (state_of mid out es) (state_of new out es) c.parameters-test.true d (c.in-Err.ensures.made b out es (setting-stays b u old mid st hs) (before-stays old mid out st hl)))
 

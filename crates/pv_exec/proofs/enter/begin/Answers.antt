@@ -9,8 +9,8 @@ use Rattle.pv_typed.specs.TypedStatement.{For, Return}
 use Rattle.pv_typed.specs.Trees.{statement_line}
 use Rattle.pv_world.specs.declared.got.Got.TheVariants as got
 use Rattle.pv_exec.specs.Leading.{LeadsOr}
-use Rattle.pv_exec.specs.Entering.{entered}
-use Rattle.pv_exec.specs.Tasks.{left}
+use Rattle.pv_exec.specs.Entering.{behind_turn}
+use Rattle.pv_exec.specs.Tasks.{left_flow}
 use Rattle.pv_exec.proofs.Leaving.{leaves-with}
 use Rattle.pv_exec.proofs.Enters.{expression-enters, choice-enters, choice-else-enters, return-enters, for-enters, do-enters, leaves, at-world, while-is, for-is-round}
 use Rattle.pv_exec.proofs.enter.begin.Goals as goal
@@ -48,32 +48,32 @@ returns-in-Switch-clause-led c = λ b out es hs hl k lt.
 pub returns-in-Declare-clause-led : goal.returns-in-Declare-clause-led
 returns-in-Declare-clause-led c = λ b out es hs hl k lt.
     let s = state_of c.args.machine.now.moment out es in
-    leaves b c.args.unit.now k c.args.machine.now.started _ flow.Falls s lt (ap (λ t. entered b (below b k) t s) c.in-Declare.ensures.form)
+    leaves b c.args.unit.now k c.args.machine.now.started _ flow.Falls s lt (ap (λ t. behind_turn b (below b k) t s) c.in-Declare.ensures.form)
 
 pub returns-in-Empty-clause-led : goal.returns-in-Empty-clause-led
 returns-in-Empty-clause-led c = λ b out es hs hl k lt.
     let s = state_of c.args.machine.now.moment out es in
-    leaves b c.args.unit.now k c.args.machine.now.started _ flow.Falls s lt (ap (λ t. entered b (below b k) t s) c.in-Empty.ensures.form)
+    leaves b c.args.unit.now k c.args.machine.now.started _ flow.Falls s lt (ap (λ t. behind_turn b (below b k) t s) c.in-Empty.ensures.form)
 
 pub returns-in-Case-clause-led : goal.returns-in-Case-clause-led
 returns-in-Case-clause-led c = λ b out es hs hl k lt.
     let s = state_of c.args.machine.now.moment out es in
-    leaves b c.args.unit.now k c.args.machine.now.started _ flow.Falls s lt (ap (λ t. entered b (below b k) t s) c.in-Case.ensures.form)
+    leaves b c.args.unit.now k c.args.machine.now.started _ flow.Falls s lt (ap (λ t. behind_turn b (below b k) t s) c.in-Case.ensures.form)
 
 pub returns-in-Default-clause-led : goal.returns-in-Default-clause-led
 returns-in-Default-clause-led c = λ b out es hs hl k lt.
     let s = state_of c.args.machine.now.moment out es in
-    leaves b c.args.unit.now k c.args.machine.now.started _ flow.Falls s lt (ap (λ t. entered b (below b k) t s) c.in-Default.ensures.form)
+    leaves b c.args.unit.now k c.args.machine.now.started _ flow.Falls s lt (ap (λ t. behind_turn b (below b k) t s) c.in-Default.ensures.form)
 
 pub returns-in-Continue-clause-led : goal.returns-in-Continue-clause-led
 returns-in-Continue-clause-led c = λ b out es hs hl k lt.
     let s = state_of c.args.machine.now.moment out es in
-    leaves b c.args.unit.now k c.args.machine.now.started _ flow.Continues s lt (ap (λ t. entered b (below b k) t s) c.in-Continue.ensures.form)
+    leaves b c.args.unit.now k c.args.machine.now.started _ flow.Continues s lt (ap (λ t. behind_turn b (below b k) t s) c.in-Continue.ensures.form)
 
 pub returns-in-Break-clause-led : goal.returns-in-Break-clause-led
 returns-in-Break-clause-led c = λ b out es hs hl k lt.
     let s = state_of c.args.machine.now.moment out es in
-    leaves b c.args.unit.now k c.args.machine.now.started _ flow.Breaks s lt (ap (λ t. entered b (below b k) t s) c.in-Break.ensures.form)
+    leaves b c.args.unit.now k c.args.machine.now.started _ flow.Breaks s lt (ap (λ t. behind_turn b (below b k) t s) c.in-Break.ensures.form)
 
 pub returns-in-DoWhile-clause-led : goal.returns-in-DoWhile-clause-led
 returns-in-DoWhile-clause-led c = λ b out es hs hl k lt.
@@ -113,7 +113,7 @@ pub returns-in-None-value-clause-led : goal.returns-in-None-value-clause-led
 returns-in-None-value-clause-led c = λ b out es hs hl k lt.
     let u = c.args.unit.now in
     let s = state_of c.args.machine.now.moment out es in
-    leaves-with b u k _ got.Nothing c.leave_with.result c.args.machine.now.started _ s lt (ap (λ t. left (entered b (below b k) t s)) (c.in-Return.ensures.form ∙ ap (λ q. Return (statement_line (statement_at u c.args.n)) (optional_in (nodes u) q)) c.in-None-value.is)) refl c.leave_with.ensures.way c.leave_with.ensures.memory
+    leaves-with b u k _ got.Nothing c.leave_with.result c.args.machine.now.started _ s lt (ap (λ t. left_flow (behind_turn b (below b k) t s)) (c.in-Return.ensures.form ∙ ap (λ q. Return (statement_line (statement_at u c.args.n)) (optional_in (nodes u) q)) c.in-None-value.is)) refl c.leave_with.ensures.way c.leave_with.ensures.memory
 
 pub returns-in-Expression-clause-ways : goal.returns-in-Expression-clause-ways
 returns-in-Expression-clause-ways c = c.evaluate.ensures.ways c.args.unit.now tt

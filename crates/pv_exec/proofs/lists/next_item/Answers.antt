@@ -2,7 +2,7 @@ use Rattle.std.proofs.Common.{◌≡◌, ◌+◌, [], ◌∙◌, ap, sym, arith}
 use Rattle.std.specs.Prelude.{slice_index_or}
 use Rattle.std.proofs.lemmas.Grind.{common_steps}
 use Rattle.pv_typed.specs.TypedUnits.{WholeUnit, object_at}
-use Rattle.pv_typed.specs.Tables.{nodes, whole, store_in}
+use Rattle.pv_typed.specs.Tables.{nodes, whole_unit, store_in}
 use Rattle.pv_typed.specs.NodeTrees.{list_at}
 use Rattle.pv_eval.specs.Moments.{state_of}
 use Rattle.pv_exec.specs.Flows.{begin_fill}
@@ -56,7 +56,7 @@ items-preserved c =
     record {
       passed = λ b out es hs hl w.
           let filled = made-ok c.reach.result (begin_fill b o (object_at b.unit o).braced (object_at b.unit o).inits (state_of mid out es)) (state_of new out es) (sym c.is_err.ensures.value ∙ c.if-is_err.false) (c.reach.ensures.made b out es (setting-stays b u old mid st hs) (before-stays old mid out st hl)) in
-          let empty = ap (λ (q : WholeUnit). (object_at q o).inits) hs.unit ∙ mapped-none (store_in u.known (nodes u)) (object_at (whole u) o).inits c.inits.result.now c.inits.ensures.stores none in
+          let empty = ap (λ (q : WholeUnit). (object_at q o).inits) hs.unit ∙ mapped-none (store_in u.known (nodes u)) (object_at (whole_unit u) o).inits c.inits.result.now c.inits.ensures.stores none in
           c.items.invariant.passed b out es hs hl w
           ∙ list-declared b w u l i (i + 1) o (slice_index_or xs i (record { 0 = 0 })) (state_of mid out es) (state_of new out es) (item-at xs (list_at u l) i c.children-items.ensures c.items-test.true) (sym c.in-Some.ensures.value) filled
           ∙ list-passed b w u l (i + 1) o (state_of new out es) empty;

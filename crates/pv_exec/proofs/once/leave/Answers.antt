@@ -3,7 +3,7 @@ use Rattle.std.proofs.lemmas.Grind.{common_steps}
 use Rattle.pv_eval.specs.Moments.{state_of}
 use Rattle.pv_exec.specs.declared.task.Doing.TheVariants as doing
 use Rattle.pv_exec.specs.Tasks.{Left, after_task}
-use Rattle.pv_exec.specs.Works.{passed, flow_of}
+use Rattle.pv_exec.specs.Works.{behind_call, flow_of}
 use Rattle.pv_exec.proofs.Works.{popped, at-state, ends-here, left-does, followed-on, followed-out}
 use Rattle.std.proofs.Common.{length, ap, ◌∙◌}
 use Rattle.std.proofs.lemmas.List.{length_push}
@@ -31,9 +31,9 @@ returns-in-Ok-clause-holds c = λ b out es hs hl all tu h.
     let t = c.in-Some.task in
     let at = old.started in
     let p = popped b u all c.args.tasks.now.items ts t old.started (doing.Left c.args.flow) (Left (flow_of c.args.flow)) s c.in-Some.ensures.items refl (λ k. left-does b u k old.started c.args.flow s) h in
-    let w = at-state b u all ts (passed t at) (after_task b u p.level at t (Left (flow_of c.args.flow)) s) s s' c.resume_flow-way.ensures.stays.taken p.waits in
+    let w = at-state b u all ts (behind_call t at) (after_task b u p.level at t (Left (flow_of c.args.flow)) s) s s' c.resume_flow-way.ensures.stays.taken p.waits in
     let l = c.resume_flow-way.ensures.led b out es hs hl p.level h.most p.room in
-    let f = c.follow.ensures.holds b u all (after_task b u p.level at t (Left (flow_of c.args.flow)) s) (passed t at) new.started s' w l in
+    let f = c.follow.ensures.holds b u all (after_task b u p.level at t (Left (flow_of c.args.flow)) s) (behind_call t at) new.started s' w l in
     followed-on b u all c.follow.result c.in-Ok.doing c.follow.new.tasks.items new.started s' c.in-Ok.is f
 
 pub returns-in-Err-clause-holds : goal.returns-in-Err-clause-holds
@@ -47,9 +47,9 @@ returns-in-Err-clause-holds c = λ b out es hs hl all tu h.
     let t = c.in-Some.task in
     let at = old.started in
     let p = popped b u all c.args.tasks.now.items ts t old.started (doing.Left c.args.flow) (Left (flow_of c.args.flow)) s c.in-Some.ensures.items refl (λ k. left-does b u k old.started c.args.flow s) h in
-    let w = at-state b u all ts (passed t at) (after_task b u p.level at t (Left (flow_of c.args.flow)) s) s s' c.resume_flow-way.ensures.stays.taken p.waits in
+    let w = at-state b u all ts (behind_call t at) (after_task b u p.level at t (Left (flow_of c.args.flow)) s) s s' c.resume_flow-way.ensures.stays.taken p.waits in
     let l = c.resume_flow-way.ensures.led b out es hs hl p.level h.most p.room in
-    let f = c.follow.ensures.holds b u all (after_task b u p.level at t (Left (flow_of c.args.flow)) s) (passed t at) new.started s' w l in
+    let f = c.follow.ensures.holds b u all (after_task b u p.level at t (Left (flow_of c.args.flow)) s) (behind_call t at) new.started s' w l in
     followed-out b u all c.follow.result c.in-Err.e c.follow.new.tasks.items new.started s' c.in-Err.is f
 
 pub returns-in-Ok-clause-setting : goal.returns-in-Ok-clause-setting
@@ -66,7 +66,7 @@ returns-in-Ok-clause-runs c =
     let at = c.args.machine.now.started in
     let es = c.resume_flow-way.new.machine.started in
     let last = last-of u c.args.tasks.now.items ts t c.args.machine.now.started (doing.Left c.args.flow) c.in-Some.ensures.items c.requires.runs in
-    runs-on u c.follow.new.tasks.items es c.follow.result c.in-Ok.doing c.in-Ok.is (c.follow.ensures.runs u (passed t at) es last.rest last.below c.resume_flow-way.ensures.ways)
+    runs-on u c.follow.new.tasks.items es c.follow.result c.in-Ok.doing c.in-Ok.is (c.follow.ensures.runs u (behind_call t at) es last.rest last.below c.resume_flow-way.ensures.ways)
 
 pub returns-in-Ok-clause-pace : goal.returns-in-Ok-clause-pace
 returns-in-Ok-clause-pace c = λ z.

@@ -1,10 +1,10 @@
 use Rattle.std.proofs.Common.{List, ◌≡◌, [], arith, refl}
 use Rattle.std.proofs.lemmas.Grind.{common_steps}
-use Rattle.pv_eval.specs.Machines.{ended, after_first}
+use Rattle.pv_eval.specs.Machines.{ended_value, after_first}
 use Rattle.pv_eval.specs.Moments.{state_of}
 use Rattle.pv_exec.specs.declared.task.Doing.TheVariants as doing
 use Rattle.pv_exec.specs.Tasks.{Valued, after_task}
-use Rattle.pv_exec.specs.Works.{passed}
+use Rattle.pv_exec.specs.Works.{behind_call}
 use Rattle.pv_exec.proofs.Works.{popped, at-state, ends-here, value-does, followed-on, followed-out}
 use Rattle.std.proofs.Common.{length, ap, ◌∙◌}
 use Rattle.std.proofs.lemmas.List.{length_push}
@@ -19,7 +19,7 @@ returns-in-None-clause-holds c = λ b out es hs hl all tu h.
     let u = c.args.unit.now in
     let old = c.args.machine.now in
     let none : c.args.tasks.now.items ≡ [] = grind (arith, common_steps) in
-    ends-here b u all c.args.tasks.now.items old.started doing.Evaluated (Valued (ended old.started)) (state_of old.moment out es) none (λ k. value-does b u k old.started (state_of old.moment out es)) h
+    ends-here b u all c.args.tasks.now.items old.started doing.Evaluated (Valued (ended_value old.started)) (state_of old.moment out es) none (λ k. value-does b u k old.started (state_of old.moment out es)) h
 
 pub returns-in-Ok-clause-holds : goal.returns-in-Ok-clause-holds
 returns-in-Ok-clause-holds c = λ b out es hs hl all tu h.
@@ -31,10 +31,10 @@ returns-in-Ok-clause-holds c = λ b out es hs hl all tu h.
     let ts = c.pop.new.self.items in
     let t = c.in-Some.task in
     let at = after_first old.started in
-    let p = popped b u all c.args.tasks.now.items ts t old.started doing.Evaluated (Valued (ended old.started)) s c.in-Some.ensures.items refl (λ k. value-does b u k old.started s) h in
-    let w = at-state b u all ts (passed t at) (after_task b u p.level at t (Valued (ended old.started)) s) s s' c.resume_value-way.ensures.stays.taken p.waits in
+    let p = popped b u all c.args.tasks.now.items ts t old.started doing.Evaluated (Valued (ended_value old.started)) s c.in-Some.ensures.items refl (λ k. value-does b u k old.started s) h in
+    let w = at-state b u all ts (behind_call t at) (after_task b u p.level at t (Valued (ended_value old.started)) s) s s' c.resume_value-way.ensures.stays.taken p.waits in
     let l = c.resume_value-way.ensures.led b out es hs hl p.level h.most p.room in
-    let f = c.follow.ensures.holds b u all (after_task b u p.level at t (Valued (ended old.started)) s) (passed t at) new.started s' w l in
+    let f = c.follow.ensures.holds b u all (after_task b u p.level at t (Valued (ended_value old.started)) s) (behind_call t at) new.started s' w l in
     followed-on b u all c.follow.result c.in-Ok.doing c.follow.new.tasks.items new.started s' c.in-Ok.is f
 
 pub returns-in-Err-clause-holds : goal.returns-in-Err-clause-holds
@@ -47,10 +47,10 @@ returns-in-Err-clause-holds c = λ b out es hs hl all tu h.
     let ts = c.pop.new.self.items in
     let t = c.in-Some.task in
     let at = after_first old.started in
-    let p = popped b u all c.args.tasks.now.items ts t old.started doing.Evaluated (Valued (ended old.started)) s c.in-Some.ensures.items refl (λ k. value-does b u k old.started s) h in
-    let w = at-state b u all ts (passed t at) (after_task b u p.level at t (Valued (ended old.started)) s) s s' c.resume_value-way.ensures.stays.taken p.waits in
+    let p = popped b u all c.args.tasks.now.items ts t old.started doing.Evaluated (Valued (ended_value old.started)) s c.in-Some.ensures.items refl (λ k. value-does b u k old.started s) h in
+    let w = at-state b u all ts (behind_call t at) (after_task b u p.level at t (Valued (ended_value old.started)) s) s s' c.resume_value-way.ensures.stays.taken p.waits in
     let l = c.resume_value-way.ensures.led b out es hs hl p.level h.most p.room in
-    let f = c.follow.ensures.holds b u all (after_task b u p.level at t (Valued (ended old.started)) s) (passed t at) new.started s' w l in
+    let f = c.follow.ensures.holds b u all (after_task b u p.level at t (Valued (ended_value old.started)) s) (behind_call t at) new.started s' w l in
     followed-out b u all c.follow.result c.in-Err.e c.follow.new.tasks.items new.started s' c.in-Err.is f
 
 pub returns-in-Ok-clause-setting : goal.returns-in-Ok-clause-setting
@@ -67,7 +67,7 @@ returns-in-Ok-clause-runs c =
     let at = (after_first c.args.machine.now.started) in
     let es = c.resume_value-way.new.machine.started in
     let last = last-of u c.args.tasks.now.items ts t c.args.machine.now.started doing.Evaluated c.in-Some.ensures.items c.requires.runs in
-    runs-on u c.follow.new.tasks.items es c.follow.result c.in-Ok.doing c.in-Ok.is (c.follow.ensures.runs u (passed t at) es last.rest last.below c.resume_value-way.ensures.ways)
+    runs-on u c.follow.new.tasks.items es c.follow.result c.in-Ok.doing c.in-Ok.is (c.follow.ensures.runs u (behind_call t at) es last.rest last.below c.resume_value-way.ensures.ways)
 
 pub returns-in-Ok-clause-pace : goal.returns-in-Ok-clause-pace
 returns-in-Ok-clause-pace c = λ z.

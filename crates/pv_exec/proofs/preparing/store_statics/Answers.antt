@@ -1,7 +1,7 @@
 use Rattle.std.proofs.Common.{◌∙◌, ◌+◌, ◌≡◌, ap, refl, arith, Err, List}
 use Rattle.std.specs.Prelude.{drop, length}
 use Rattle.pv_typed.specs.TypedUnits.{Store, WholeUnit, object_at}
-use Rattle.pv_typed.specs.Tables.{nodes, whole, store_in}
+use Rattle.pv_typed.specs.Tables.{nodes, whole_unit, store_in}
 use Rattle.pv_eval.specs.States.{State}
 use Rattle.pv_eval.specs.Moments.{state_of}
 use Rattle.pv_exec.specs.Preparing.{store_static}
@@ -16,7 +16,7 @@ returns-clause-made c = λ b out es hs hl.
     let u = c.args.unit.now in
     let o = c.args.o in
     let mid = c.stores.machine.moment in
-    let xs = (object_at (whole u) o).inits in
+    let xs = (object_at (whole_unit u) o).inits in
     let n : length xs ≡ length c.inits-stores.result.now = mapped-length (store_in u.known (nodes u)) xs c.inits-stores.result.now c.inits-stores.ensures.stores in
     let none = dropped-all xs c.stores.i (omega (arith, n, c.stores-test.false)) in
     c.stores.invariant.made b out es hs hl
@@ -32,8 +32,8 @@ returns-in-Err-clause-made c = λ b out es hs hl.
     let new = c.store_static.new.machine.moment in
     let st = c.stores.invariant.stays in
     let xs = (object_at b.unit o).inits in
-    let n : length (object_at (whole u) o).inits ≡ length c.inits-stores.result.now = mapped-length (store_in u.known (nodes u)) (object_at (whole u) o).inits c.inits-stores.result.now c.inits-stores.ensures.stores in
-    let m : length xs ≡ length (object_at (whole u) o).inits = ap (λ (q : WholeUnit). length (object_at q o).inits) hs.unit in
+    let n : length (object_at (whole_unit u) o).inits ≡ length c.inits-stores.result.now = mapped-length (store_in u.known (nodes u)) (object_at (whole_unit u) o).inits c.inits-stores.result.now c.inits-stores.ensures.stores in
+    let m : length xs ≡ length (object_at (whole_unit u) o).inits = ap (λ (q : WholeUnit). length (object_at q o).inits) hs.unit in
     made-is (store_statics b o (drop i xs) (state_of mid out es)) (store_statics b o xs (state_of old out es)) (Err c.in-Err.e) (state_of new out es) (c.stores.invariant.made b out es hs hl)
     (split-at xs i (omega (arith, m, n, c.stores-test.true)) (λ x e.
     each-stops (store_statics b o) (λ (x : Store) (s : State). store_static b o x x.what s) (λ x xs s. refl) (drop i xs) (drop (i + 1) xs) x c.in-Err.e (state_of mid out es) (state_of new out es) e (c.in-Err.ensures.made b out es (setting-stays b u old mid st hs) (before-stays old mid out st hl) x (drop (i + 1) xs) e)))
@@ -50,11 +50,11 @@ stores-preserved c =
     let mid = c.stores.machine.moment in
     let new = c.store_static.new.machine.moment in
     let st = c.stores.invariant.stays in
-    let n : length (object_at (whole u) o).inits ≡ length c.inits-stores.result.now = mapped-length (store_in u.known (nodes u)) (object_at (whole u) o).inits c.inits-stores.result.now c.inits-stores.ensures.stores in
+    let n : length (object_at (whole_unit u) o).inits ≡ length c.inits-stores.result.now = mapped-length (store_in u.known (nodes u)) (object_at (whole_unit u) o).inits c.inits-stores.result.now c.inits-stores.ensures.stores in
     record {
       made = λ b out es hs hl.
           let xs = (object_at b.unit o).inits in
-          let m : length xs ≡ length (object_at (whole u) o).inits = ap (λ (q : WholeUnit). length (object_at q o).inits) hs.unit in
+          let m : length xs ≡ length (object_at (whole_unit u) o).inits = ap (λ (q : WholeUnit). length (object_at q o).inits) hs.unit in
           c.stores.invariant.made b out es hs hl ∙ split-at xs i (omega (arith, m, n, c.stores-test.true)) (λ x e.
           each-more (store_statics b o) (λ (x : Store) (s : State). store_static b o x x.what s) (λ x xs s. refl) (drop i xs) (drop (i + 1) xs) x (state_of mid out es) (state_of new out es) e (c.in-Ok.ensures.made b out es (setting-stays b u old mid st hs) (before-stays old mid out st hl) x (drop (i + 1) xs) e));
       started = c.in-Ok.ensures.started ∙ c.stores.invariant.started;

@@ -6,7 +6,7 @@ use Rattle.pv_exec.specs.declared.task.Doing.TheVariants as doing
 use Rattle.pv_exec.specs.declared.task.Way.TheVariants as way
 use Rattle.pv_exec.specs.declared.task.Task.{Task}
 use Rattle.pv_exec.specs.Fits.{WayFits}
-use Rattle.pv_exec.specs.Works.{passed}
+use Rattle.pv_exec.specs.Works.{behind_call}
 use Rattle.std.proofs.Common.{subst}
 use Rattle.pv_exec.specs.Tasks.{after_flow}
 use Rattle.pv_exec.proofs.ByTask.{flow-task}
@@ -77,7 +77,7 @@ returns-in-Storing-clause-led c = flow-task c.args.unit.now c.args.task (task.St
 pub returns-in-InSwitch-clause-ways : goal.returns-in-InSwitch-clause-ways
 returns-in-InSwitch-clause-ways c =
     let es = c.args.machine.now.started in
-    subst (λ (t : Task). WayFits c.args.unit.now (passed t es) es c.after_switch.result) (sym c.in-InSwitch.is) (c.after_switch.ensures.ways c.args.unit.now es).0
+    subst (λ (t : Task). WayFits c.args.unit.now (behind_call t es) es c.after_switch.result) (sym c.in-InSwitch.is) (c.after_switch.ensures.ways c.args.unit.now es).0
 
 pub returns-in-InSwitch-clause-quick : goal.returns-in-InSwitch-clause-quick
 returns-in-InSwitch-clause-quick c = (c.after_switch.ensures.ways c.args.unit.now c.args.machine.now.started).1

@@ -5,7 +5,7 @@ use Rattle.pv_exec.specs.declared.task.Doing.{Doing}
 use Rattle.pv_exec.specs.declared.task.Way.TheVariants as way
 use Rattle.pv_exec.specs.Calls.{below}
 use Rattle.pv_exec.specs.Parts.{Loop, loop_of, stepped_on}
-use Rattle.pv_exec.specs.Tasks.{left}
+use Rattle.pv_exec.specs.Tasks.{left_flow}
 use Rattle.pv_exec.specs.Leading.{Leads}
 use Rattle.pv_exec.specs.Fits.{WayFits}
 use Rattle.pv_exec.specs.Quickness.{Quick}
@@ -19,7 +19,7 @@ returns-in-Some-clause-led c = λ b k s le lt.
     let es = c.args.machine.now.started in
     let parts = c.loop_parts-parts.result in
     let p : RoundParts = record { statement = c.args.n; condition = c.in-Some.condition; body = parts.body } in
-    subst (λ (d : Doing). Leads b u (left (stepped_on b (below b k) (loop_of (statement_at u c.args.n)) s)) es (way.Do d) es s) (sym c.behind_body.ensures)
+    subst (λ (d : Doing). Leads b u (left_flow (stepped_on b (below b k) (loop_of (statement_at u c.args.n)) s)) es (way.Do d) es s) (sym c.behind_body.ensures)
     (behind-goes b u k parts.step p es s lt (ap (λ (l : Loop). l.step) c.loop_parts-parts.ensures.value))
 
 pub returns-in-Some-clause-ways : goal.returns-in-Some-clause-ways

@@ -2,7 +2,7 @@ use Rattle.std.proofs.Common.{◌≡◌, ◌≤◌, ◌-◌}
 use Rattle.pv_eval.specs.MachineSteps.{Fit}
 use Rattle.pv_exec.specs.Answering.{outlet}
 use Rattle.pv_exec.specs.Fits.{Runs}
-use Rattle.pv_exec.specs.Works.{asked}
+use Rattle.pv_exec.specs.Works.{turn_due}
 use Rattle.pv_exec.proofs.Streaming.{Streaming}
 use Rattle.pv_exec.proofs.running.run_statements.Given as goal
 
@@ -12,7 +12,7 @@ invariant-statements g l = record {
   later : g.O.Sink.faults l.fn.out ≤ g.O.Sink.faults l.out;
   fit : Fit l.unit l.machine.started;
   runs : Runs l.unit l.tasks.items l.machine.started l.doing;
-  due : asked l.machine.started l.doing ≡ 1;
+  due : turn_due l.machine.started l.doing ≡ 1;
 }
 
 abbrev pub decreases-statements : goal.decreases-statements

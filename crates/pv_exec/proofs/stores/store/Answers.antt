@@ -10,7 +10,7 @@ use Rattle.pv_eval.specs.TypeForms.{size_of}
 use Rattle.pv_eval.specs.Operations.{PutsText, act}
 use Rattle.pv_exec.specs.declared.task.Doing.TheVariants as doing
 use Rattle.pv_exec.specs.declared.task.Task.TheVariants as task
-use Rattle.pv_exec.specs.Flows.{full}
+use Rattle.pv_exec.specs.Flows.{full_expression}
 use Rattle.pv_exec.specs.Calls.{below}
 use Rattle.pv_exec.specs.Tasks.{after_value}
 use Rattle.pv_exec.specs.Works.{does}
@@ -34,7 +34,7 @@ returns-in-Node-clause-led c = λ b out es hs hl k le tu lt.
     let taken : mid.moment.taken ≡ old.moment.taken + 1 = ap (λ (m : Moment). m.taken) c.tick.ensures.moment in
     let inits = subst (λ (q : WholeUnit). drop i (object_at q o).inits ≡ x ∷ drop (i + 1) (object_at q o).inits) (sym hs.unit) c.init_at-init.ensures.store in
     let law = store-value b u k o i e x (drop (i + 1) (object_at b.unit o).inits) old.started s (tu refl) inits (ap (value_in (nodes u)) c.in-Node.is)
-    ∙ ap (λ (q : State). then_do (full b (below b k).call e q) (after_value b u k (task.Storing o i))) (ticked-state old.moment mid.moment out es c.tick.ensures.moment) in
+    ∙ ap (λ (q : State). then_do (full_expression b (below b k).call e q) (after_value b u k (task.Storing o i))) (ticked-state old.moment mid.moment out es c.tick.ensures.moment) in
     at-both b u (does b u k old.started (doing.Store o i) s) old.started mid.started new.started c.evaluate.result mid.moment new.moment out es c.evaluate.ensures.moment c.tick.ensures.started
     (c.evaluate.ensures.led b u k s1 (does b u k old.started (doing.Store o i) s) (omega (arith, lt, taken)) law)
 

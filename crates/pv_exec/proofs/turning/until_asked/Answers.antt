@@ -1,7 +1,7 @@
 use Rattle.std.proofs.Common.{◌≡◌, length, false, subst, arith, rules, Ok}
 use Rattle.pv_eval.specs.Moments.{state_of}
 use Rattle.pv_exec.specs.declared.once.After.{After}
-use Rattle.pv_exec.specs.Works.{asked}
+use Rattle.pv_exec.specs.Works.{turn_due}
 use Rattle.pv_exec.specs.Leading.{HoldsAfter}
 use Rattle.pv_exec.specs.Fits.{AfterRuns}
 use Rattle.pv_exec.specs.Pace.{doing_ops, AfterPace}
@@ -17,7 +17,7 @@ operations-preserved c =
     let m2 = c.once.new.machine in
     let inv = c.operations.invariant in
     let f : c.is_asked.result ≡ false = search rules in
-    let z = unasked-undue m1.started c.operations.doing (undue (asked m1.started c.operations.doing) c.is_asked.result c.is_asked.ensures f) in
+    let z = unasked-undue m1.started c.operations.doing (undue (turn_due m1.started c.operations.doing) c.is_asked.result c.is_asked.ensures f) in
     record {
       held = λ b out es hs hl all h.
           subst (λ (x : After). HoldsAfter b u all (Ok x) c.once.new.tasks.items m2.started (state_of m2.moment out es)) c.in-Ok-On.field-0-is
@@ -35,7 +35,7 @@ returns-in-Err-clause-holds c = λ b out es hs hl all h.
     let m1 = c.operations.machine in
     let inv = c.operations.invariant in
     let f : c.is_asked.result ≡ false = search rules in
-    let z = unasked-undue m1.started c.operations.doing (undue (asked m1.started c.operations.doing) c.is_asked.result c.is_asked.ensures f) in
+    let z = unasked-undue m1.started c.operations.doing (undue (turn_due m1.started c.operations.doing) c.is_asked.result c.is_asked.ensures f) in
     c.in-Err.ensures.holds b out es (keeps-setting b u m0.moment m1.moment inv.setting hs) (inv.setting.total (length out) hl) all (not-due _ z) (inv.held b out es hs hl all h)
 
 pub returns-in-Err-clause-setting : goal.returns-in-Err-clause-setting
@@ -49,7 +49,7 @@ returns-in-Ok-Last-clause-holds c = λ b out es hs hl all h.
     let m2 = c.once.new.machine in
     let inv = c.operations.invariant in
     let f : c.is_asked.result ≡ false = search rules in
-    let z = unasked-undue m1.started c.operations.doing (undue (asked m1.started c.operations.doing) c.is_asked.result c.is_asked.ensures f) in
+    let z = unasked-undue m1.started c.operations.doing (undue (turn_due m1.started c.operations.doing) c.is_asked.result c.is_asked.ensures f) in
     subst (λ (x : After). HoldsAfter b u all (Ok x) c.once.new.tasks.items m2.started (state_of m2.moment out es)) c.in-Ok-Last.field-0-is
     (c.in-Ok-Last.ensures.holds b out es (keeps-setting b u m0.moment m1.moment inv.setting hs) (inv.setting.total (length out) hl) all (not-due _ z) (inv.held b out es hs hl all h))
 
@@ -60,12 +60,12 @@ pub once-requires-clause-turn : goal.once-requires-clause-turn
 once-requires-clause-turn c =
     let m1 = c.operations.machine in
     let f : c.is_asked.result ≡ false = search rules in
-    let z = unasked-undue m1.started c.operations.doing (undue (asked m1.started c.operations.doing) c.is_asked.result c.is_asked.ensures f) in
+    let z = unasked-undue m1.started c.operations.doing (undue (turn_due m1.started c.operations.doing) c.is_asked.result c.is_asked.ensures f) in
     λ one. not-due _ z one
 
 pub operations-smaller : goal.operations-smaller
 operations-smaller c =
     let m1 = c.operations.machine in
     let f : c.is_asked.result ≡ false = search rules in
-    let z = unasked-undue m1.started c.operations.doing (undue (asked m1.started c.operations.doing) c.is_asked.result c.is_asked.ensures f) in
+    let z = unasked-undue m1.started c.operations.doing (undue (turn_due m1.started c.operations.doing) c.is_asked.result c.is_asked.ensures f) in
     subst (λ (x : After). AfterPace (doing_ops m1.started c.operations.doing (length c.operations.tasks.items)) (Ok x) c.once.new.tasks.items c.once.new.machine.started) c.in-Ok-On.field-0-is (c.in-Ok-On.ensures.pace z)

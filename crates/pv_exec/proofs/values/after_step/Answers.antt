@@ -1,6 +1,6 @@
 use Rattle.std.proofs.Common.{◌∙◌}
 use Rattle.pv_eval.specs.Moments.{state_of}
-use Rattle.pv_eval.specs.Machines.{after_first, ended}
+use Rattle.pv_eval.specs.Machines.{after_first, ended_value}
 use Rattle.pv_exec.specs.declared.task.Task.TheVariants as task
 use Rattle.pv_exec.specs.Tasks.{after_value}
 use Rattle.pv_exec.proofs.Leaving.{at-both}
@@ -14,4 +14,4 @@ returns-clause-led c = λ b out es hs hl k le lt.
     let mid = c.value.new.self in
     let new = c.round_again.new.machine in
     let s = state_of old.moment out es in
-    at-both b u (after_value b u k (task.Stepped c.args.n) (ended old.started) s) (after_first old.started) mid.started new.started c.round_again.result old.moment new.moment out es (c.round_again.ensures.moment ∙ c.value.ensures.moment) c.value.ensures.started (c.round_again.ensures.led b k s le lt)
+    at-both b u (after_value b u k (task.Stepped c.args.n) (ended_value old.started) s) (after_first old.started) mid.started new.started c.round_again.result old.moment new.moment out es (c.round_again.ensures.moment ∙ c.value.ensures.moment) c.value.ensures.started (c.round_again.ensures.led b k s le lt)

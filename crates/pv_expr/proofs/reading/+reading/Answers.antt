@@ -3,7 +3,7 @@ use Rattle.std.proofs.lemmas.Result.{IfOk-from_err}
 use Rattle.pv_tree.specs.Tables.{expression_at, is_expression}
 use Rattle.pv_tree.proofs.Kept.{extends_same, extends_then, is_kept}
 use Rattle.pv_expr_forms.specs.Sources.{known_names}
-use Rattle.pv_expr_forms.specs.Reader.{read, grown}
+use Rattle.pv_expr_forms.specs.Reader.{read, longest_tree}
 use Rattle.pv_expr_forms.proofs.Answered.{moved, got, got_none, read_none, read_some, grew, grew_out}
 use Rattle.pv_expr_forms.proofs.Calls.{call_none, call_there, call_forward, call_nodes, call_kept, call_end, call_stop, call_next, call_last}
 use Rattle.pv_expr_forms.proofs.Listing.{called_close, no_items, start_with}
@@ -70,7 +70,7 @@ grow-returns-in-None g t c = record {
   answer =
       let a = longer_in c.args.source.now.typedefs.now (g.R.TypeReader.types c.args.source.now.reader.now) c.args.into.now c.loop-longer.into c.extend.new.into c.args.source.now.tokens.now.tokens c.requires.ready.tied c.loop-longer.invariant.keeps c.args.level c.args.below (expression_at c.loop-longer.into.forest c.loop-longer.left) (drop c.loop-longer.next c.args.source.now.tokens.now.tokens) c.in_ok-longer.field-0 c.in_ok-longer.ensures.answer in
       grew_out (known_names g.R.TypeReader.types c.args.source.now c.args.into.now) (read (known_names g.R.TypeReader.types c.args.source.now c.args.into.now) c.args.below) c.args.level c.args.below c.loop-longer.into c.extend.new.into c.args.source.now.tokens.now.tokens c.loop-longer.left c.loop-longer.next c.in_ok-longer.field-0 a
-      (grown (known_names g.R.TypeReader.types c.args.source.now c.args.into.now) (read (known_names g.R.TypeReader.types c.args.source.now c.args.into.now) c.args.below) c.args.level c.args.below (expression_at c.args.into.now.forest c.args.first) (drop c.args.at c.args.source.now.tokens.now.tokens))
+      (longest_tree (known_names g.R.TypeReader.types c.args.source.now c.args.into.now) (read (known_names g.R.TypeReader.types c.args.source.now c.args.into.now) c.args.below) c.args.level c.args.below (expression_at c.args.into.now.forest c.args.first) (drop c.args.at c.args.source.now.tokens.now.tokens))
       c.in-None.is c.extend.ensures.keeps c.loop-longer.invariant.node c.loop-longer.invariant.place c.loop-longer.invariant.same;
 }
 

@@ -2,7 +2,7 @@ use Rattle.std.proofs.Common.{◌≡◌, ◌≤◌, ◌+◌, ◌-◌, ◌*◌, A
 use Rattle.pv_tree.specs.Depths.{expression_depth}
 use Rattle.pv_tree.specs.Syntax.{NoArguments}
 use Rattle.pv_tree.specs.Tables.{expression_at, arguments_of, is_expression, Is, Extends}
-use Rattle.pv_expr_forms.specs.Reader.{read, grown, arguments}
+use Rattle.pv_expr_forms.specs.Reader.{read, longest_tree, arguments}
 use Rattle.pv_expr_forms.specs.Sources.{known_names, AreKnown}
 use Rattle.pv_expr.proofs.reading.+reading.Given as goal
 
@@ -33,7 +33,7 @@ invariant-grow-loop-longer g l =
       place : l.next ≤ length tokens;
       keeps : Extends l.fn.into l.into;
       tied : AreKnown g.R.TypeReader.types l.source l.into;
-      same : grown names (read names l.below) l.level l.below (expression_at l.into.forest l.left) (drop l.next tokens) ≡ grown names (read names l.below) l.level l.below (expression_at l.fn.into.forest l.fn.first) (drop l.fn.at tokens);
+      same : longest_tree names (read names l.below) l.level l.below (expression_at l.into.forest l.left) (drop l.next tokens) ≡ longest_tree names (read names l.below) l.level l.below (expression_at l.fn.into.forest l.fn.first) (drop l.fn.at tokens);
     }
 
 abbrev pub decreases-grow-loop-longer : goal.decreases-grow-loop-longer

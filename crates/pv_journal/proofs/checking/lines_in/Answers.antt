@@ -1,5 +1,5 @@
 use Rattle.std.proofs.Common.{◌≡◌, length, subst, arith}
-use Rattle.pv_journal.specs.Reading.{judged}
+use Rattle.pv_journal.specs.Reading.{rows_or_wrong}
 use Rattle.pv_journal.specs.Standing.{state_under, Takes}
 use Rattle.pv_journal.proofs.Added.{more_itself, more_both, lines_named}
 use Rattle.pv_journal.proofs.Walking.{begins, text_out, text_well, text_behind, text_bad, text_goes, text_shorter}
@@ -14,7 +14,7 @@ loop-text-init c = record {
 pub returns-then-is_empty-clause-judges : goal.returns-then-is_empty-clause-judges
 returns-then-is_empty-clause-judges c =
     let counts : c.len-count.result ≡ length c.loop-text.lines.items = omega (arith, c.loop-text.lines.ok.0, c.len-count.ensures) in
-    text_well c.loop-text.names c.loop-text.standing c.loop-text.lines.items c.loop-text.rest.now (judged c.args.bytes.now) c.loop-text.invariant.goes c.len-count.result counts c.in-Some.text.now c.in-Some.behind.now c.in-Some.ensures c.if-is_last.ensures c.if-is_empty.ensures
+    text_well c.loop-text.names c.loop-text.standing c.loop-text.lines.items c.loop-text.rest.now (rows_or_wrong c.args.bytes.now) c.loop-text.invariant.goes c.len-count.result counts c.in-Some.text.now c.in-Some.behind.now c.in-Some.ensures c.if-is_last.ensures c.if-is_empty.ensures
 
 pub returns-then-is_empty-clause-named : goal.returns-then-is_empty-clause-named
 returns-then-is_empty-clause-named c = lines_named c.loop-text.names c.loop-text.lines.items c.loop-text.invariant.goes.lines_known
@@ -30,7 +30,7 @@ overflow_add-result c =
 pub returns-then-is_last-clause-judges : goal.returns-then-is_last-clause-judges
 returns-then-is_last-clause-judges c =
     let counts : c.len-count.result ≡ length c.loop-text.lines.items = omega (arith, c.loop-text.lines.ok.0, c.len-count.ensures) in
-    text_behind c.loop-text.names c.loop-text.standing c.loop-text.lines.items c.loop-text.rest.now (judged c.args.bytes.now) c.loop-text.invariant.goes c.len-count.result counts c.in-Some.text.now c.in-Some.behind.now c.in-Some.ensures c.if-is_last.ensures c.if-is_empty.ensures
+    text_behind c.loop-text.names c.loop-text.standing c.loop-text.lines.items c.loop-text.rest.now (rows_or_wrong c.args.bytes.now) c.loop-text.invariant.goes c.len-count.result counts c.in-Some.text.now c.in-Some.behind.now c.in-Some.ensures c.if-is_last.ensures c.if-is_empty.ensures
 
 pub returns-then-is_last-clause-more : goal.returns-then-is_last-clause-more
 returns-then-is_last-clause-more c = c.loop-text.invariant.more
@@ -50,7 +50,7 @@ pub returns-in_default-taken-clause-judges : goal.returns-in_default-taken-claus
 returns-in_default-taken-clause-judges c =
     let counts : c.len-count.result ≡ length c.loop-text.lines.items = omega (arith, c.loop-text.lines.ok.0, c.len-count.ensures) in
     let none = subst (Takes (state_under c.loop-text.names c.loop-text.standing) c.in-Some.text.now c.take.new.names c.take.new.self) c.in_default-taken.is c.in-Ok.ensures.takes in
-    text_bad c.loop-text.names c.loop-text.standing c.loop-text.lines.items c.loop-text.rest.now (judged c.args.bytes.now) c.loop-text.invariant.goes c.len-count.result counts c.in-Some.text.now c.in-Some.behind.now c.in-Some.ensures c.if-is_last.ensures none
+    text_bad c.loop-text.names c.loop-text.standing c.loop-text.lines.items c.loop-text.rest.now (rows_or_wrong c.args.bytes.now) c.loop-text.invariant.goes c.len-count.result counts c.in-Some.text.now c.in-Some.behind.now c.in-Some.ensures c.if-is_last.ensures none
 
 pub returns-in_default-taken-clause-more : goal.returns-in_default-taken-clause-more
 returns-in_default-taken-clause-more c = more_both _ _ _ c.loop-text.invariant.more c.take.ensures.more
@@ -61,14 +61,14 @@ returns-in_default-push-clause-more c = more_both _ _ _ c.loop-text.invariant.mo
 pub loop-text-smaller : goal.loop-text-smaller
 loop-text-smaller c =
     let counts : c.len-count.result ≡ length c.loop-text.lines.items = omega (arith, c.loop-text.lines.ok.0, c.len-count.ensures) in
-    text_shorter c.loop-text.names c.loop-text.standing c.loop-text.lines.items c.loop-text.rest.now (judged c.args.bytes.now) c.loop-text.invariant.goes c.len-count.result counts c.in-Some.text.now c.in-Some.behind.now c.in-Some.ensures
+    text_shorter c.loop-text.names c.loop-text.standing c.loop-text.lines.items c.loop-text.rest.now (rows_or_wrong c.args.bytes.now) c.loop-text.invariant.goes c.len-count.result counts c.in-Some.text.now c.in-Some.behind.now c.in-Some.ensures
 
 pub loop-text-preserved : goal.loop-text-preserved
 loop-text-preserved c =
     let counts : c.len-count.result ≡ length c.loop-text.lines.items = omega (arith, c.loop-text.lines.ok.0, c.len-count.ensures) in
     let takes = subst (Takes (state_under c.loop-text.names c.loop-text.standing) c.in-Some.text.now c.take.new.names c.take.new.self) c.in-Some-taken.is c.in-Ok.ensures.takes in
     record {
-      goes = text_goes c.loop-text.names c.loop-text.standing c.loop-text.lines.items c.loop-text.rest.now (judged c.args.bytes.now) c.loop-text.invariant.goes c.len-count.result counts c.in-Some.text.now c.in-Some.behind.now c.in-Some.ensures c.take.new.names c.take.new.self c.in-Some-taken.next c.push.new.self.items c.if-is_last.ensures c.take.ensures.more takes c.in-Ok-push.ensures.items;
+      goes = text_goes c.loop-text.names c.loop-text.standing c.loop-text.lines.items c.loop-text.rest.now (rows_or_wrong c.args.bytes.now) c.loop-text.invariant.goes c.len-count.result counts c.in-Some.text.now c.in-Some.behind.now c.in-Some.ensures c.take.new.names c.take.new.self c.in-Some-taken.next c.push.new.self.items c.if-is_last.ensures c.take.ensures.more takes c.in-Ok-push.ensures.items;
       more = more_both _ _ _ c.loop-text.invariant.more c.take.ensures.more;
     }
 
@@ -78,7 +78,7 @@ overflow_add-result-2 c = record { fits = omega (arith, c.loop-text.lines.ok.0, 
 pub returns-clause-judges : goal.returns-clause-judges
 returns-clause-judges c =
     let counts : c.len.result ≡ length c.loop-text.lines.items = omega (arith, c.loop-text.lines.ok.0, c.len.ensures) in
-    text_out c.loop-text.names c.loop-text.standing c.loop-text.lines.items c.loop-text.rest.now (judged c.args.bytes.now) c.loop-text.invariant.goes c.len.result counts c.in_default.ensures
+    text_out c.loop-text.names c.loop-text.standing c.loop-text.lines.items c.loop-text.rest.now (rows_or_wrong c.args.bytes.now) c.loop-text.invariant.goes c.len.result counts c.in_default.ensures
 
 pub returns-clause-more : goal.returns-clause-more
 returns-clause-more c = c.loop-text.invariant.more

@@ -1,12 +1,12 @@
 use Rattle.std.proofs.Common.{length}
-use Rattle.pv_journal.specs.Reading.{judged}
+use Rattle.pv_journal.specs.Reading.{rows_or_wrong}
 use Rattle.pv_journal.specs.Standing.{IsMore}
 use Rattle.pv_journal.proofs.Walking.{GoesIn}
 use Rattle.pv_journal.proofs.checking.lines_in.Given as goal
 
 abbrev pub invariant-loop-text : goal.invariant-loop-text
 invariant-loop-text l = record {
-  goes : GoesIn l.names l.standing l.lines.items l.rest (judged l.bytes);
+  goes : GoesIn l.names l.standing l.lines.items l.rest (rows_or_wrong l.bytes);
   more : IsMore l.fn.names l.names;
 }
 

@@ -4,7 +4,7 @@ use Rattle.pv_object.specs.declared.values.Asker.TheVariants.{Text}
 use Rattle.pv_object.specs.declared.values.Stop.{Stop}
 use Rattle.pv_object.proofs.Later.{reach_later}
 use Rattle.pv_libc.specs.declared.values.Reply.{Reply}
-use Rattle.pv_libc.specs.Steps.{Did, with_notes, next, reached}
+use Rattle.pv_libc.specs.Steps.{Did, with_notes, next, reach_for}
 use Rattle.pv_libc.specs.Answers.{OrNoMemory}
 use Rattle.pv_libc.specs.Ahead.{rows_compared}
 use Rattle.pv_libc.proofs.Steps.{or_next}
@@ -33,5 +33,5 @@ returns-in-Some c =
     let answer : Result Reply Stop = Ok c.in-Some.reply in
     let P : Did Reply → Type 0 = λ d. OrNoMemory answer U d in
     let here = subst P (sym (c.in-Some.ensures p q c.reached-2.new.notes.items)) (refl, refl) in
-    or_next answer U (reached Text false p n S) left T (λ l V. next (reached Text false q n V) (λ r W. rows_compared p q l.address r.address n W)) c.in-Ok.ensures.answer.0 c.in-Ok.ensures.answer.1
-    (or_next answer U (reached Text false q n T) right U (λ r W. rows_compared p q left.address r.address n W) c.in-Ok-reached.ensures.answer.0 c.in-Ok-reached.ensures.answer.1 here)
+    or_next answer U (reach_for Text false p n S) left T (λ l V. next (reach_for Text false q n V) (λ r W. rows_compared p q l.address r.address n W)) c.in-Ok.ensures.answer.0 c.in-Ok.ensures.answer.1
+    (or_next answer U (reach_for Text false q n T) right U (λ r W. rows_compared p q left.address r.address n W) c.in-Ok-reached.ensures.answer.0 c.in-Ok-reached.ensures.answer.1 here)

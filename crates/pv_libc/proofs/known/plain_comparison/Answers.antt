@@ -1,6 +1,6 @@
 use Rattle.std.proofs.Common.{rules, ◌≡◌, ◌<◌, ◌+◌, ◌-◌, eqb, true, false, sym, ap, ◌∙◌, arith}
 use Rattle.pv_libc.specs.declared.values.Reply.{Reply}
-use Rattle.pv_libc.specs.Steps.{done, with_notes}
+use Rattle.pv_libc.specs.Steps.{answer_now, with_notes}
 use Rattle.pv_libc.specs.Characters.{most}
 use Rattle.pv_libc.specs.Strings.{compared_from}
 use Rattle.pv_libc.proofs.Running.{by_different, by_zero, by_rest, equal_is}
@@ -22,7 +22,7 @@ returns-then-a-b c = λ notes.
     sym (c.loop-i.invariant.same notes)
     ∙ compared_plain M c.args.p c.args.q i a b before c.in_ok-one.ensures.character c.in_ok-other.ensures.character notes
     ∙ by_different a b S (compared_from (most - (i + 1)) c.args.p c.args.q (i + 1) S) differ
-    ∙ ap (λ (r : Reply). done r S) (sym c.sign_of.ensures)
+    ∙ ap (λ (r : Reply). answer_now r S) (sym c.sign_of.ensures)
 
 pub returns-then-a-eq0 : goal.returns-then-a-eq0
 returns-then-a-eq0 c = λ notes.

@@ -2,7 +2,7 @@ use Rattle.std.proofs.Common.{◌≡◌, ◌≤◌, ◌+◌, ◌-◌, ℤ, sym, 
 use Rattle.pv_object.specs.declared.values.Value.TheVariants as value
 use Rattle.pv_libc.specs.declared.values.Reply.{Reply}
 use Rattle.pv_libc.specs.declared.values.Reply.TheVariants as reply
-use Rattle.pv_libc.specs.Steps.{done, with_notes}
+use Rattle.pv_libc.specs.Steps.{answer_now, with_notes}
 use Rattle.pv_libc.specs.Blocks.{difference}
 use Rattle.pv_libc.specs.Ahead.{sign_or}
 use Rattle.pv_libc.proofs.Rows.{row_at, digits_plain, more_plain, rows_plain, difference_from, difference_on, difference_done, sign_last}
@@ -51,5 +51,5 @@ returns c = λ p q notes.
     let is : difference (row_at m a n) (row_at m b n) ≡ sign_or decided.left decided.right (difference (row_at m (a + i) (n - i)) (row_at m (b + i) (n - i))) = sym c.loop-i.invariant.same in
     rows_plain M a b n (c.is_told.ensures c.if-not-is_told.false)
     (λ j l. c.loop-i.invariant.one j (omega (arith, l, over))) (λ j l. c.loop-i.invariant.other j (omega (arith, l, over))) p q notes
-    ∙ ap (λ (z : ℤ). done (reply.Value (value.Int z)) (with_notes M notes)) (is ∙ ap (sign_or decided.left decided.right) (difference_done m a b n i over) ∙ sign_last decided.left decided.right)
-    ∙ ap (λ (r : Reply). done r (with_notes M notes)) (sym c.sign_of.ensures)
+    ∙ ap (λ (z : ℤ). answer_now (reply.Value (value.Int z)) (with_notes M notes)) (is ∙ ap (sign_or decided.left decided.right) (difference_done m a b n i over) ∙ sign_last decided.left decided.right)
+    ∙ ap (λ (r : Reply). answer_now r (with_notes M notes)) (sym c.sign_of.ensures)

@@ -1,4 +1,4 @@
-use Rattle.pv_serve.specs.Outside.{sunk}
+use Rattle.pv_serve.specs.Outside.{sink_change}
 use Rattle.pv_serve.proofs.LoadLemmas.{ran_outcome, left_unfinished, let_out_streamed, late_program, sooner_program}
 use Rattle.pv_serve.proofs.judging.run_program.Goals as goal
 
@@ -18,9 +18,9 @@ returns-in-Ok g c = record {
 pub returns-in-Err : goal.returns-in-Err
 returns-in-Err g c = record {
   judged = λ source script is. tt;
-  part = λ source script is. left_unfinished source script _ _ _ _ _ (sunk g.O.Sink.written g.O.Sink.faults _ _) _ _ is c.in-Err.ensures.left;
+  part = λ source script is. left_unfinished source script _ _ _ _ _ (sink_change g.O.Sink.written g.O.Sink.faults _ _) _ _ is c.in-Err.ensures.left;
   cause = c.in-Err.ensures.cause;
   late = λ source script is. tt;
   sooner = λ source script is. tt;
-  streams = λ source script is. let_out_streamed source script _ _ _ _ _ (sunk g.O.Sink.written g.O.Sink.faults _ _) _ _ is c.in-Err.ensures.streams;
+  streams = λ source script is. let_out_streamed source script _ _ _ _ _ (sink_change g.O.Sink.written g.O.Sink.faults _ _) _ _ is c.in-Err.ensures.streams;
 }

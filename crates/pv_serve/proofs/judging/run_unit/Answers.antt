@@ -1,5 +1,5 @@
 use Rattle.pv_serve.specs.declared.judging.Named.{Named}
-use Rattle.pv_serve.specs.Outside.{sunk}
+use Rattle.pv_serve.specs.Outside.{sink_change}
 use Rattle.pv_serve.proofs.RunLemmas.{runnable, left_by, let_out_by, fault_of}
 use Rattle.pv_serve.proofs.judging.run_unit.Goals as goal
 
@@ -19,9 +19,9 @@ returns-in-Ok g c = record {
 pub returns-in-Err : goal.returns-in-Err
 returns-in-Err g c = record {
   ran = tt;
-  left = left_by (sunk g.O.Sink.written g.O.Sink.faults _ _) _ _ _ _ c.in-Err.ensures.part c.in-Err.ensures.told;
+  left = left_by (sink_change g.O.Sink.written g.O.Sink.faults _ _) _ _ _ _ c.in-Err.ensures.part c.in-Err.ensures.told;
   cause = fault_of Named _ _ _ c.in-Err.ensures.cause;
   late = tt;
   sooner = tt;
-  streams = let_out_by (sunk g.O.Sink.written g.O.Sink.faults _ _) _ _ _ _ _ c.in-Err.ensures.streams;
+  streams = let_out_by (sink_change g.O.Sink.written g.O.Sink.faults _ _) _ _ _ _ _ c.in-Err.ensures.streams;
 }

@@ -1,6 +1,6 @@
 use Rattle.std.proofs.Common.{refl, inl}
 use Rattle.pv_script.proofs.GainsLemmas.{gains_nothing}
-use Rattle.pv_serve.specs.Outside.{sunk}
+use Rattle.pv_serve.specs.Outside.{sink_change}
 use Rattle.pv_serve.proofs.RunLemmas.{judged_nothing, judged_fit, cut_fit}
 use Rattle.pv_serve.proofs.tasks.judge_task.Goals as goal
 
@@ -12,7 +12,7 @@ returns-in-Ok-Program g c =
     let p = (rw c.in-Ok-Program.field-0-is at c.in-Ok-Program.ensures) in
     record {
       judged = judged_fit _ _ _ _ _ _ _ _ _ p.short p.reads p.comes c.judge_unit.ensures.judged;
-      part = cut_fit _ _ _ _ _ _ (sunk g.O.Sink.written g.O.Sink.faults _ _) _ _ p.short p.reads p.comes c.judge_unit.ensures.part;
+      part = cut_fit _ _ _ _ _ _ (sink_change g.O.Sink.written g.O.Sink.faults _ _) _ _ p.short p.reads p.comes c.judge_unit.ensures.part;
       cause = c.judge_unit.ensures.cause;
     }
 

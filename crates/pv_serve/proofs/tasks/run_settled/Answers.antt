@@ -1,6 +1,6 @@
 use Rattle.std.proofs.Common.{inl}
 use Rattle.pv_script.proofs.GainsLemmas.{gains_nothing}
-use Rattle.pv_serve.specs.Outside.{sunk}
+use Rattle.pv_serve.specs.Outside.{sink_change}
 use Rattle.pv_serve.proofs.LateLemmas.{none_highs}
 use Rattle.pv_serve.proofs.RunLemmas.{is_run, settled_judged, settled_cut_off}
 use Rattle.pv_serve.proofs.SidesLemmas.{are_listed}
@@ -27,6 +27,6 @@ returns-in-Ok-run_unit g c = record {
 pub returns : goal.returns
 returns g c = record {
   judged = λ hall same. tt;
-  part = λ hall same. settled_cut_off _ c.args.lines c.args.bound _ _ (sunk g.O.Sink.written g.O.Sink.faults _ _) _ hall _ _ same (is_run c.args.unit _ _ _ _) c.in-Err-run_unit.ensures.left;
+  part = λ hall same. settled_cut_off _ c.args.lines c.args.bound _ _ (sink_change g.O.Sink.written g.O.Sink.faults _ _) _ hall _ _ same (is_run c.args.unit _ _ _ _) c.in-Err-run_unit.ensures.left;
   cause = c.in-Err-run_unit.ensures.cause;
 }

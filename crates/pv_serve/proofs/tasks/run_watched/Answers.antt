@@ -1,4 +1,4 @@
-use Rattle.pv_serve.specs.Outside.{sunk}
+use Rattle.pv_serve.specs.Outside.{sink_change}
 use Rattle.pv_serve.proofs.RunLemmas.{is_run, run_judged, run_cut_off}
 use Rattle.pv_serve.proofs.tasks.run_watched.Goals as goal
 
@@ -15,6 +15,6 @@ returns-in-Ok g c = record {
 pub returns-in-Err : goal.returns-in-Err
 returns-in-Err g c = record {
   judged = tt;
-  part = run_cut_off _ c.args.lines c.args.bound _ (sunk g.O.Sink.written g.O.Sink.faults _ _) _ _ _ (is_run c.args.unit _ _ _ _) c.in-Err.ensures.left;
+  part = run_cut_off _ c.args.lines c.args.bound _ (sink_change g.O.Sink.written g.O.Sink.faults _ _) _ _ _ (is_run c.args.unit _ _ _ _) c.in-Err.ensures.left;
   cause = c.in-Err.ensures.cause;
 }

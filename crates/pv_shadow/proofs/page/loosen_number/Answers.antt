@@ -1,7 +1,7 @@
 use Rattle.std.proofs.Common.{◌≡◌, ◌+◌, ◌<◌, get_or, set, Some, sym, ap, subst, ◌∙◌, inl, inr, ⊎_elim, arith}
 use Rattle.std.proofs.lemmas.List.{get_or-set_same, get_or-set_other, length-set}
 use Rattle.pv_shadow.specs.declared.packed.Packed.{Packed}
-use Rattle.pv_shadow.specs.Packed.{unpacked, absent, number_byte}
+use Rattle.pv_shadow.specs.Packed.{byte_packed, absent, number_byte}
 use Rattle.pv_shadow.proofs.Pages.{same_or_not}
 use Rattle.pv_shadow.proofs.Cells.{loosened_number, loosened_range}
 use Rattle.pv_shadow.proofs.page.loosen_number.Goals as goal
@@ -12,10 +12,10 @@ loop-j-preserved c =
     record {
       long = length-set c.loop-j.slots (c.args.f + c.loop-j.j) c.pack.result ∙ c.loop-j.invariant.long;
       bytes = λ k h. ⊎_elim
-          (λ e. ap (λ q. unpacked (get_or (set c.loop-j.slots (c.args.f + c.loop-j.j) c.pack.result) (c.args.f + q) absent)) e
-          ∙ ap unpacked (get_or-set_same c.loop-j.slots (c.args.f + c.loop-j.j) c.pack.result absent (omega (arith, c.loop-j.invariant.long, c.requires.first)))
+          (λ e. ap (λ q. byte_packed (get_or (set c.loop-j.slots (c.args.f + c.loop-j.j) c.pack.result) (c.args.f + q) absent)) e
+          ∙ ap byte_packed (get_or-set_same c.loop-j.slots (c.args.f + c.loop-j.j) c.pack.result absent (omega (arith, c.loop-j.invariant.long, c.requires.first)))
           ∙ c.pack.ensures.is ∙ ap Some c.number_byte.ensures ∙ ap (λ q. Some (number_byte head q)) (sym e))
-          (λ n. ap unpacked (get_or-set_other c.loop-j.slots (c.args.f + c.loop-j.j) (c.args.f + k) c.pack.result absent (λ e. n (omega arith)))
+          (λ n. ap byte_packed (get_or-set_other c.loop-j.slots (c.args.f + c.loop-j.j) (c.args.f + k) c.pack.result absent (λ e. n (omega arith)))
           ∙ c.loop-j.invariant.bytes k (omega arith))
           (same_or_not k c.loop-j.j);
       single = λ k h. ⊎_elim

@@ -1,7 +1,7 @@
 use Rattle.std.proofs.Common.{List, map, ap, ◌∙◌}
 use Rattle.std.specs.List.{filter, fold}
 use Rattle.pv_shown.specs.declared.past.Life.{Life}
-use Rattle.pv_shown.specs.Shown.{placed, reaches}
+use Rattle.pv_shown.specs.Shown.{put_by_address, reaches}
 use Rattle.pv_shown.specs.Recorded.{held_then, helds_then}
 use Rattle.pv_shown.proofs.Parting.{first_by, others_by, found_block}
 use Rattle.pv_shown.proofs.showing.found_at.Goals as goal
@@ -14,7 +14,7 @@ pub loop-end-init : goal.loop-end-init
 loop-end-init c = record {
   ends = c.requires;
   found = λ names.
-      ap (λ (ys : List Life). fold (λ ys x. placed x ys) (map (held_then names c.args.n) ys) (filter (reaches c.args.a) (helds_then names c.args.n c.args.lives.now))) c.new-found.ensures.items;
+      ap (λ (ys : List Life). fold (λ ys x. put_by_address x ys) (map (held_then names c.args.n) ys) (filter (reaches c.args.a) (helds_then names c.args.n c.args.lives.now))) c.new-found.ensures.items;
 }
 
 pub loop-end-preserved : goal.loop-end-preserved

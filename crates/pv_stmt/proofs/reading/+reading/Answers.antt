@@ -10,8 +10,8 @@ use Rattle.pv_decl_forms.specs.Pieces.{is_semicolon, row}
 use Rattle.pv_decl_forms.specs.Reader.{declaration}
 use Rattle.pv_decl_forms.proofs.Answered.{moved, nothing}
 use Rattle.pv_decl_forms.proofs.Loops.{at_start, no_parts, start_row, goes_forward, part_there, parts_there, row_ends, row_goes, trees_kept, all_kept}
-use Rattle.pv_stmt_forms.specs.Parts.{item_in, braced, enclosed}
-use Rattle.pv_stmt_forms.specs.Statements.{condition, declared, labelled, chosen, do_end, Statements, SwitchBlocks, readers, block_end}
+use Rattle.pv_stmt_forms.specs.Parts.{item_in, block_behind, block_tree}
+use Rattle.pv_stmt_forms.specs.Statements.{condition, only_declaration, labels_and_statement, else_part, do_end, Statements, SwitchBlocks, readers, block_end}
 use Rattle.pv_stmt_forms.proofs.Shorter.{items_shorten}
 use Rattle.pv_stmt_forms.proofs.Chains.{do_shut, do_unread, do_so, first_some, first_none, there_of, later_some, later_none, as_items, statement_item, declaration_item, labelled_none, labelled_bare, selection_shut, selection_none, selection_so, loop_shut, loop_none, loop_so, switch_shut, switch_none, switch_so, do_none, do_on, chosen_plain, chosen_open, chosen_unread, chosen_both, alone_kept, both_kept}
 use Rattle.pv_stmt_forms.proofs.Begun.{statement_zero, switch_zero, statement_end, begun, switch_begun, switch_not, item_declared, item_stated, item_labelled}
@@ -147,8 +147,8 @@ selection-returns-in-Some-2 g t c = record {
   keeps = extends_then c.args.into.now c.statement.new.into c.chosen.new.into (extends_then c.args.into.now c.condition.new.into c.statement.new.into c.condition.ensures.keeps c.statement.ensures.keeps) c.chosen.ensures.keeps;
   answer =
       moved _ _ _ _ _ _
-      (ap (λ (n : Names). chosen (readers n c.args.below Statements) c.args.line (tree_at c.statement.new.into.forest c.in-Some.condition) (tree_at c.statement.new.into.forest c.in-Some-2.body) (drop c.in-Some-2.end c.args.source.now.tokens.now.tokens)) (names_kept c.args.source.now.typedefs.now (g.R.TypeReader.types c.args.source.now.reader.now) c.args.into.now c.statement.new.into c.args.source.now.tokens.now.tokens c.requires.tied (extends_then c.args.into.now c.condition.new.into c.statement.new.into c.condition.ensures.keeps c.statement.ensures.keeps))
-      ∙ ap (λ (t : Tree). chosen (readers (known_names g.R.TypeReader.types c.args.source.now c.args.into.now) c.args.below Statements) c.args.line t (tree_at c.statement.new.into.forest c.in-Some-2.body) (drop c.in-Some-2.end c.args.source.now.tokens.now.tokens)) (tree_kept c.condition.new.into c.statement.new.into c.in-Some.condition c.statement.ensures.keeps (there_of c.condition.new.into is_expression c.args.source.now.tokens.now.tokens c.in_ok-condition.field-0 (condition (known_names g.R.TypeReader.types c.args.source.now c.args.into.now) c.args.below (drop c.args.at c.args.source.now.tokens.now.tokens)) c.in_ok-condition.ensures.answer c.in-Some.condition c.in-Some.next c.in-Some.is).0.0)
+      (ap (λ (n : Names). else_part (readers n c.args.below Statements) c.args.line (tree_at c.statement.new.into.forest c.in-Some.condition) (tree_at c.statement.new.into.forest c.in-Some-2.body) (drop c.in-Some-2.end c.args.source.now.tokens.now.tokens)) (names_kept c.args.source.now.typedefs.now (g.R.TypeReader.types c.args.source.now.reader.now) c.args.into.now c.statement.new.into c.args.source.now.tokens.now.tokens c.requires.tied (extends_then c.args.into.now c.condition.new.into c.statement.new.into c.condition.ensures.keeps c.statement.ensures.keeps))
+      ∙ ap (λ (t : Tree). else_part (readers (known_names g.R.TypeReader.types c.args.source.now c.args.into.now) c.args.below Statements) c.args.line t (tree_at c.statement.new.into.forest c.in-Some-2.body) (drop c.in-Some-2.end c.args.source.now.tokens.now.tokens)) (tree_kept c.condition.new.into c.statement.new.into c.in-Some.condition c.statement.ensures.keeps (there_of c.condition.new.into is_expression c.args.source.now.tokens.now.tokens c.in_ok-condition.field-0 (condition (known_names g.R.TypeReader.types c.args.source.now c.args.into.now) c.args.below (drop c.args.at c.args.source.now.tokens.now.tokens)) c.in_ok-condition.ensures.answer c.in-Some.condition c.in-Some.next c.in-Some.is).0.0)
       ∙ selection_so (known_names g.R.TypeReader.types c.args.source.now c.args.into.now) c.args.below c.args.line (readers (known_names g.R.TypeReader.types c.args.source.now c.args.into.now) c.args.below Statements) (drop c.args.at c.args.source.now.tokens.now.tokens) (tree_at c.condition.new.into.forest c.in-Some.condition, (drop c.in-Some.next c.args.source.now.tokens.now.tokens)) (first_some c.condition.new.into is_expression c.args.source.now.tokens.now.tokens c.in_ok-condition.field-0 (condition (known_names g.R.TypeReader.types c.args.source.now c.args.into.now) c.args.below (drop c.args.at c.args.source.now.tokens.now.tokens)) c.in_ok-condition.ensures.answer c.in-Some.condition c.in-Some.next c.in-Some.is) (tree_at c.statement.new.into.forest c.in-Some-2.body, (drop c.in-Some-2.end c.args.source.now.tokens.now.tokens)) (later_some c.args.source.now.typedefs.now (g.R.TypeReader.types c.args.source.now.reader.now) c.args.into.now c.condition.new.into c.statement.new.into c.args.source.now.tokens.now.tokens c.requires.tied c.condition.ensures.keeps is_statement c.in_ok-body.field-0 (λ (n : Names). readers n c.args.below Statements (drop c.in-Some.next c.args.source.now.tokens.now.tokens)) c.in_ok-body.ensures.answer c.in-Some-2.body c.in-Some-2.end c.in-Some-2.is)) c.chosen.ensures.answer;
 }
 
@@ -198,7 +198,7 @@ pub switch-returns-in-None : goal.switch-returns-in-None
 switch-returns-in-None g t c = record {
   keeps = extends_then c.args.into.now c.condition.new.into c.braced.new.into c.condition.ensures.keeps c.braced.ensures.keeps;
   answer =
-      nothing _ _ _ _ (switch_none (known_names g.R.TypeReader.types c.args.source.now c.args.into.now) c.args.below c.args.line (readers (known_names g.R.TypeReader.types c.args.source.now c.args.into.now) c.args.below SwitchBlocks) (drop c.args.at c.args.source.now.tokens.now.tokens) (tree_at c.condition.new.into.forest c.in-Some.value, (drop c.in-Some.next c.args.source.now.tokens.now.tokens)) (first_some c.condition.new.into is_expression c.args.source.now.tokens.now.tokens c.in_ok-value.field-0 (condition (known_names g.R.TypeReader.types c.args.source.now c.args.into.now) c.args.below (drop c.args.at c.args.source.now.tokens.now.tokens)) c.in_ok-value.ensures.answer c.in-Some.value c.in-Some.next c.in-Some.is) (later_none c.args.source.now.typedefs.now (g.R.TypeReader.types c.args.source.now.reader.now) c.args.into.now c.condition.new.into c.braced.new.into c.args.source.now.tokens.now.tokens c.requires.tied c.condition.ensures.keeps is_statement c.in_ok-block.field-0 (λ (n : Names). readers n c.args.below SwitchBlocks (drop c.in-Some.next c.args.source.now.tokens.now.tokens)) (record { is = c.in_ok-block.ensures.answer.is ∙ ap (λ (l : ℕ). braced within.Switch (known_names g.R.TypeReader.types c.args.source.now c.condition.new.into) (c.args.below - 1) l (drop c.in-Some-after.inside c.args.source.now.tokens.now.tokens)) c.line_at-first.ensures ∙ switch_begun (known_names g.R.TypeReader.types c.args.source.now c.condition.new.into) c.args.below (drop c.in-Some.next c.args.source.now.tokens.now.tokens) (drop c.in-Some-after.inside c.args.source.now.tokens.now.tokens) (omega arith) c.in-Some-after.ensures.0; there = c.in_ok-block.ensures.answer.there }) c.in-None.is));
+      nothing _ _ _ _ (switch_none (known_names g.R.TypeReader.types c.args.source.now c.args.into.now) c.args.below c.args.line (readers (known_names g.R.TypeReader.types c.args.source.now c.args.into.now) c.args.below SwitchBlocks) (drop c.args.at c.args.source.now.tokens.now.tokens) (tree_at c.condition.new.into.forest c.in-Some.value, (drop c.in-Some.next c.args.source.now.tokens.now.tokens)) (first_some c.condition.new.into is_expression c.args.source.now.tokens.now.tokens c.in_ok-value.field-0 (condition (known_names g.R.TypeReader.types c.args.source.now c.args.into.now) c.args.below (drop c.args.at c.args.source.now.tokens.now.tokens)) c.in_ok-value.ensures.answer c.in-Some.value c.in-Some.next c.in-Some.is) (later_none c.args.source.now.typedefs.now (g.R.TypeReader.types c.args.source.now.reader.now) c.args.into.now c.condition.new.into c.braced.new.into c.args.source.now.tokens.now.tokens c.requires.tied c.condition.ensures.keeps is_statement c.in_ok-block.field-0 (λ (n : Names). readers n c.args.below SwitchBlocks (drop c.in-Some.next c.args.source.now.tokens.now.tokens)) (record { is = c.in_ok-block.ensures.answer.is ∙ ap (λ (l : ℕ). block_behind within.Switch (known_names g.R.TypeReader.types c.args.source.now c.condition.new.into) (c.args.below - 1) l (drop c.in-Some-after.inside c.args.source.now.tokens.now.tokens)) c.line_at-first.ensures ∙ switch_begun (known_names g.R.TypeReader.types c.args.source.now c.condition.new.into) c.args.below (drop c.in-Some.next c.args.source.now.tokens.now.tokens) (drop c.in-Some-after.inside c.args.source.now.tokens.now.tokens) (omega arith) c.in-Some-after.ensures.0; there = c.in_ok-block.ensures.answer.there }) c.in-None.is));
 }
 
 pub switch-found_statement-requires-clause-place : goal.switch-found_statement-requires-clause-place
@@ -213,7 +213,7 @@ switch-returns-in-Some-2 g t c = record {
   answer =
       moved _ _ _ _ _ _
       (ap (λ (t : Tree). let x : Tree × List Token = (OfStatement (Switch c.args.line (as_expression t) (statement_at c.braced.new.into.forest c.in-Some-2.block)), (drop c.in-Some-2.end c.args.source.now.tokens.now.tokens)) in Some x) (tree_kept c.condition.new.into c.braced.new.into c.in-Some.value c.braced.ensures.keeps (there_of c.condition.new.into is_expression c.args.source.now.tokens.now.tokens c.in_ok-value.field-0 (condition (known_names g.R.TypeReader.types c.args.source.now c.args.into.now) c.args.below (drop c.args.at c.args.source.now.tokens.now.tokens)) c.in_ok-value.ensures.answer c.in-Some.value c.in-Some.next c.in-Some.is).0.0)
-      ∙ switch_so (known_names g.R.TypeReader.types c.args.source.now c.args.into.now) c.args.below c.args.line (readers (known_names g.R.TypeReader.types c.args.source.now c.args.into.now) c.args.below SwitchBlocks) (drop c.args.at c.args.source.now.tokens.now.tokens) (tree_at c.condition.new.into.forest c.in-Some.value, (drop c.in-Some.next c.args.source.now.tokens.now.tokens)) (first_some c.condition.new.into is_expression c.args.source.now.tokens.now.tokens c.in_ok-value.field-0 (condition (known_names g.R.TypeReader.types c.args.source.now c.args.into.now) c.args.below (drop c.args.at c.args.source.now.tokens.now.tokens)) c.in_ok-value.ensures.answer c.in-Some.value c.in-Some.next c.in-Some.is) (tree_at c.braced.new.into.forest c.in-Some-2.block, (drop c.in-Some-2.end c.args.source.now.tokens.now.tokens)) (later_some c.args.source.now.typedefs.now (g.R.TypeReader.types c.args.source.now.reader.now) c.args.into.now c.condition.new.into c.braced.new.into c.args.source.now.tokens.now.tokens c.requires.tied c.condition.ensures.keeps is_statement c.in_ok-block.field-0 (λ (n : Names). readers n c.args.below SwitchBlocks (drop c.in-Some.next c.args.source.now.tokens.now.tokens)) (record { is = c.in_ok-block.ensures.answer.is ∙ ap (λ (l : ℕ). braced within.Switch (known_names g.R.TypeReader.types c.args.source.now c.condition.new.into) (c.args.below - 1) l (drop c.in-Some-after.inside c.args.source.now.tokens.now.tokens)) c.line_at-first.ensures ∙ switch_begun (known_names g.R.TypeReader.types c.args.source.now c.condition.new.into) c.args.below (drop c.in-Some.next c.args.source.now.tokens.now.tokens) (drop c.in-Some-after.inside c.args.source.now.tokens.now.tokens) (omega arith) c.in-Some-after.ensures.0; there = c.in_ok-block.ensures.answer.there }) c.in-Some-2.block c.in-Some-2.end c.in-Some-2.is)) c.found_statement.ensures.ok;
+      ∙ switch_so (known_names g.R.TypeReader.types c.args.source.now c.args.into.now) c.args.below c.args.line (readers (known_names g.R.TypeReader.types c.args.source.now c.args.into.now) c.args.below SwitchBlocks) (drop c.args.at c.args.source.now.tokens.now.tokens) (tree_at c.condition.new.into.forest c.in-Some.value, (drop c.in-Some.next c.args.source.now.tokens.now.tokens)) (first_some c.condition.new.into is_expression c.args.source.now.tokens.now.tokens c.in_ok-value.field-0 (condition (known_names g.R.TypeReader.types c.args.source.now c.args.into.now) c.args.below (drop c.args.at c.args.source.now.tokens.now.tokens)) c.in_ok-value.ensures.answer c.in-Some.value c.in-Some.next c.in-Some.is) (tree_at c.braced.new.into.forest c.in-Some-2.block, (drop c.in-Some-2.end c.args.source.now.tokens.now.tokens)) (later_some c.args.source.now.typedefs.now (g.R.TypeReader.types c.args.source.now.reader.now) c.args.into.now c.condition.new.into c.braced.new.into c.args.source.now.tokens.now.tokens c.requires.tied c.condition.ensures.keeps is_statement c.in_ok-block.field-0 (λ (n : Names). readers n c.args.below SwitchBlocks (drop c.in-Some.next c.args.source.now.tokens.now.tokens)) (record { is = c.in_ok-block.ensures.answer.is ∙ ap (λ (l : ℕ). block_behind within.Switch (known_names g.R.TypeReader.types c.args.source.now c.condition.new.into) (c.args.below - 1) l (drop c.in-Some-after.inside c.args.source.now.tokens.now.tokens)) c.line_at-first.ensures ∙ switch_begun (known_names g.R.TypeReader.types c.args.source.now c.condition.new.into) c.args.below (drop c.in-Some.next c.args.source.now.tokens.now.tokens) (drop c.in-Some-after.inside c.args.source.now.tokens.now.tokens) (omega arith) c.in-Some-after.ensures.0; there = c.in_ok-block.ensures.answer.there }) c.in-Some-2.block c.in-Some-2.end c.in-Some-2.is)) c.found_statement.ensures.ok;
 }
 
 pub chosen-returns-in_default : goal.chosen-returns-in_default
@@ -290,7 +290,7 @@ pub braced-returns : goal.braced-returns
 braced-returns g t c = record {
   keeps = extends_then c.args.into.now c.items.new.into c.block_of.new.into c.items.ensures.keeps c.block_of.ensures.keeps;
   answer =
-      moved _ _ _ _ _ _ (ap (block_end (enclosed c.args.within c.args.line)) (ap (λ (ns : List NodeId). let x : Trees × List Token = (trees_of c.items.new.into.forest ns, drop c.in_ok-items.end c.args.source.now.tokens.now.tokens) in x) c.deref.ensures.value ∙ c.in_ok-items.ensures.answer.is)) c.block_of.ensures.ok;
+      moved _ _ _ _ _ _ (ap (block_end (block_tree c.args.within c.args.line)) (ap (λ (ns : List NodeId). let x : Trees × List Token = (trees_of c.items.new.into.forest ns, drop c.in_ok-items.end c.args.source.now.tokens.now.tokens) in x) c.deref.ensures.value ∙ c.in_ok-items.ensures.answer.is)) c.block_of.ensures.ok;
 }
 
 pub items-loop-items-init : goal.items-loop-items-init
@@ -331,7 +331,7 @@ pub item-returns-then-begins_type : goal.item-returns-then-begins_type
 item-returns-then-begins_type g t c = record {
   keeps = c.declared.ensures.keeps;
   answer =
-      as_items c.declared.result c.declared.new.into is_declaration c.args.source.now.tokens.now.tokens (declared (declaration (known_names g.R.TypeReader.types c.args.source.now c.args.into.now) c.args.depth (drop c.args.at c.args.source.now.tokens.now.tokens))) (item_in c.args.within (known_names g.R.TypeReader.types c.args.source.now c.args.into.now) c.args.depth (drop c.args.at c.args.source.now.tokens.now.tokens)) declaration_item (item_declared c.args.within (known_names g.R.TypeReader.types c.args.source.now c.args.into.now) c.args.depth (drop c.args.at c.args.source.now.tokens.now.tokens) (sym (c.begins_type.ensures (g.R.TypeReader.types c.args.source.now.reader.now) c.args.into.now) ∙ c.if-begins_type.true)) c.declared.ensures.answer;
+      as_items c.declared.result c.declared.new.into is_declaration c.args.source.now.tokens.now.tokens (only_declaration (declaration (known_names g.R.TypeReader.types c.args.source.now c.args.into.now) c.args.depth (drop c.args.at c.args.source.now.tokens.now.tokens))) (item_in c.args.within (known_names g.R.TypeReader.types c.args.source.now c.args.into.now) c.args.depth (drop c.args.at c.args.source.now.tokens.now.tokens)) declaration_item (item_declared c.args.within (known_names g.R.TypeReader.types c.args.source.now c.args.into.now) c.args.depth (drop c.args.at c.args.source.now.tokens.now.tokens) (sym (c.begins_type.ensures (g.R.TypeReader.types c.args.source.now.reader.now) c.args.into.now) ∙ c.if-begins_type.true)) c.declared.ensures.answer;
 }
 
 pub item-returns-in-Block : goal.item-returns-in-Block
@@ -345,7 +345,7 @@ pub item-returns-in-Switch : goal.item-returns-in-Switch
 item-returns-in-Switch g t c = record {
   keeps = c.labelled.ensures.keeps;
   answer =
-      as_items c.labelled.result c.labelled.new.into is_statement c.args.source.now.tokens.now.tokens (labelled (known_names g.R.TypeReader.types c.args.source.now c.args.into.now) c.args.depth (readers (known_names g.R.TypeReader.types c.args.source.now c.args.into.now) c.args.depth Statements) (drop c.args.at c.args.source.now.tokens.now.tokens)) (item_in c.args.within (known_names g.R.TypeReader.types c.args.source.now c.args.into.now) c.args.depth (drop c.args.at c.args.source.now.tokens.now.tokens)) statement_item (item_labelled c.args.within (known_names g.R.TypeReader.types c.args.source.now c.args.into.now) c.args.depth (drop c.args.at c.args.source.now.tokens.now.tokens) (sym (c.begins_type.ensures (g.R.TypeReader.types c.args.source.now.reader.now) c.args.into.now) ∙ c.if-begins_type.false) c.in-Switch.is) c.labelled.ensures.answer;
+      as_items c.labelled.result c.labelled.new.into is_statement c.args.source.now.tokens.now.tokens (labels_and_statement (known_names g.R.TypeReader.types c.args.source.now c.args.into.now) c.args.depth (readers (known_names g.R.TypeReader.types c.args.source.now c.args.into.now) c.args.depth Statements) (drop c.args.at c.args.source.now.tokens.now.tokens)) (item_in c.args.within (known_names g.R.TypeReader.types c.args.source.now c.args.into.now) c.args.depth (drop c.args.at c.args.source.now.tokens.now.tokens)) statement_item (item_labelled c.args.within (known_names g.R.TypeReader.types c.args.source.now c.args.into.now) c.args.depth (drop c.args.at c.args.source.now.tokens.now.tokens) (sym (c.begins_type.ensures (g.R.TypeReader.types c.args.source.now.reader.now) c.args.into.now) ∙ c.if-begins_type.false) c.in-Switch.is) c.labelled.ensures.answer;
 }
 
 pub labelled-statement-requires : goal.labelled-statement-requires

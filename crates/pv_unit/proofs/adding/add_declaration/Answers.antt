@@ -4,7 +4,7 @@ use Rattle.pv_check.specs.Open.{state_of, IsOpen, Goes}
 use Rattle.pv_unit.specs.Blocks.{block_declaration}
 use Rattle.pv_unit.specs.Reaching.{reached_if, reached_in, reached_of}
 use Rattle.pv_unit.specs.Stated.{statements_in}
-use Rattle.pv_unit.specs.Statements.{reached}
+use Rattle.pv_unit.specs.Statements.{reached_declarations}
 use Rattle.pv_unit.proofs.ItemRows.{declared_none, declared_done, declared_moves}
 use Rattle.pv_unit.proofs.Moving.{moves_on, statements_stay}
 use Rattle.pv_unit.proofs.adding.add_declaration.Goals as goal
@@ -42,6 +42,6 @@ returns-clause-typed c =
     let goes : Goes c.args.into.now m = search rules in
     let is : Some (reached_in texts s m c.block_declaration.new.all.items) ≡ block_declaration (declaration_at c.args.u.now.forest c.args.d) (state_of texts false c.args.s.now c.args.into.now) =
     ap (reached_if texts s m c.block_declaration.new.all.items) (sym has) ∙ c.in_ok-found.ensures.answer in
-    let new : statements_in c.declare.new.into c.declare.new.items.items ≡ statements_in m c.args.items.now.items ++ reached (map reached_of c.block_declaration.new.all.items) = search rules in
+    let new : statements_in c.declare.new.into c.declare.new.items.items ≡ statements_in m c.args.items.now.items ++ reached_declarations (map reached_of c.block_declaration.new.all.items) = search rules in
     declared_done texts (block_declaration (declaration_at c.args.u.now.forest c.args.d) (state_of texts false c.args.s.now c.args.into.now)) c.args.into.now m c.declare.new.into s c.args.items.now.items c.declare.new.items.items c.block_declaration.new.all.items
     goes c.requires.items is new (c.in_ok-declare.ensures.state texts)

@@ -1,7 +1,7 @@
 use Rattle.std.proofs.Common.{rules, ◌≡◌}
 use Rattle.pv_typed.specs.Adding.{with_param}
 use Rattle.pv_typed.specs.Formed.{Grown}
-use Rattle.pv_typed.specs.Tables.{whole}
+use Rattle.pv_typed.specs.Tables.{whole_unit}
 use Rattle.pv_check.proofs.Literals.{goes_same_types}
 use Rattle.pv_unit.proofs.FunctionRows.{param_added}
 use Rattle.pv_unit.proofs.Moving.{moves_tables}
@@ -21,5 +21,5 @@ returns-clause-state c = λ texts.
     let b = c.add_param.new.self in
     let grown : Grown a b = search rules in
     let same : b.known ≡ a.known = search rules in
-    let is : whole b ≡ with_param (whole a) c.args.f c.args.o = search rules in
+    let is : whole_unit b ≡ with_param (whole_unit a) c.args.f c.args.o = search rules in
     param_added texts a b c.args.s.now c.args.f c.args.o c.requires.opened (goes_same_types a b grown same) is

@@ -1,7 +1,7 @@
 use Rattle.std.proofs.Common.{rules, ◌≡◌, ◌∙◌, ap, false}
 use Rattle.pv_typed.specs.AddingParts.{with_declaration}
 use Rattle.pv_typed.specs.Formed.{Grown}
-use Rattle.pv_typed.specs.Tables.{whole}
+use Rattle.pv_typed.specs.Tables.{whole_unit}
 use Rattle.pv_typed.specs.TypedUnits.{WholeUnit}
 use Rattle.pv_check.specs.Open.{state_of}
 use Rattle.pv_check.proofs.Literals.{goes_same_types}
@@ -20,6 +20,6 @@ returns-clause-opened c = open_goes c.args.into.now c.add_declaration.new.self c
 
 pub returns-clause-state : goal.returns-clause-state
 returns-clause-state c = λ texts.
-    let is : whole c.add_declaration.new.self ≡ with_declaration (whole c.args.into.now) = search rules in
+    let is : whole_unit c.add_declaration.new.self ≡ with_declaration (whole_unit c.args.into.now) = search rules in
     state_more texts false c.args.into.now c.add_declaration.new.self c.args.s.now c.requires.opened (returns-clause-goes c)
     ∙ ap (λ (w : WholeUnit). record (state_of texts false c.args.s.now c.args.into.now) { unit = w }) is

@@ -4,7 +4,7 @@ use Rattle.pv_check.specs.Open.{Goes}
 use Rattle.pv_check.specs.State.{State}
 use Rattle.pv_typed.specs.Constants.{and_then}
 use Rattle.pv_unit.specs.Functions.{typed_declaration}
-use Rattle.pv_unit.specs.FunctionParts.{counted}
+use Rattle.pv_unit.specs.FunctionParts.{with_one_external}
 use Rattle.pv_unit.specs.Outside.{unit_state}
 use Rattle.pv_unit.specs.There.{AreThere}
 use Rattle.pv_unit.proofs.Ends.{there_goes}
@@ -27,4 +27,4 @@ returns-clause-answer c =
     let u = unit_state texts c.args.s.now c.args.into.now c.args.outer.now in
     let some : Some (unit_state texts c.declaration.new.s c.declaration.new.into o) ≡ typed_declaration (declaration_at c.args.u.now.forest c.args.d) u = search rules in
     ap (λ (z : State). Some (record { state = z; entities = o.entities; unsized_typedef = o.unsized_typedef })) (c.in_ok-count.ensures.state texts)
-    ∙ ap (λ q. and_then q counted) some
+    ∙ ap (λ q. and_then q with_one_external) some

@@ -1,7 +1,7 @@
 use Rattle.std.proofs.Common.{◌≡◌, ap, false, Some}
 use Rattle.pv_tree.specs.Tables.{initializer_at}
 use Rattle.pv_types.specs.Known.{tree}
-use Rattle.pv_typed.specs.Tables.{whole}
+use Rattle.pv_typed.specs.Tables.{whole_unit}
 use Rattle.pv_typed.specs.TypedUnits.{TypedObject, object_at}
 use Rattle.pv_check.specs.Open.{state_of}
 use Rattle.pv_check.proofs.Opening.{then_goes}
@@ -31,4 +31,4 @@ returns-clause-answer c =
     let typed : given_if texts s1 m1 out (Some c.in-Some.x) ≡ initialized_object values c.args.lasting t i st = rw c.in-Some.is at c.in_ok-x.ensures.typed in
     let same = ap (λ (x : TypedObject). x.t) c.object.ensures.object in
     let is : state_of texts false s1 c.filled.new.into ≡ with_given c.args.o (given_in m1 out c.in-Some.x) (state_of texts false s1 m1) = rw c.deref.ensures.value at c.in_ok-filled.ensures.answer texts in
-    giving_done c.args.lasting texts m1 c.filled.new.into s1 t (object_at (whole m0) c.args.o).t i st c.args.o out c.in-Some.x same typed is
+    giving_done c.args.lasting texts m1 c.filled.new.into s1 t (object_at (whole_unit m0) c.args.o).t i st c.args.o out c.in-Some.x same typed is

@@ -4,9 +4,9 @@ use Rattle.pv_types.specs.Known.{env, tree}
 use Rattle.pv_types.specs.Formed.{completions}
 use Rattle.pv_types.specs.Ty.{Ty}
 use Rattle.pv_check.specs.Open.{state_of}
-use Rattle.pv_unit.specs.Initializers.{initialized, whole}
+use Rattle.pv_unit.specs.Initializers.{initializer_stores, whole_object}
 use Rattle.pv_unit.specs.InitializerParts.{is_braced}
-use Rattle.pv_unit.specs.Parts.{can_be_initialized, sized}
+use Rattle.pv_unit.specs.Parts.{can_be_initialized, with_size}
 use Rattle.pv_unit.specs.Stores.{FillsIf, behind, stores_if, stores_in}
 use Rattle.pv_unit.specs.ValueRules.{values}
 use Rattle.pv_unit.proofs.GivenRows.{can_stay, fills_kept, given_done, given_none, given_refused}
@@ -42,8 +42,8 @@ returns-in_default-clause-typed c =
     let i = initializer_at c.args.u.now.forest c.args.i in
     let can : can_be_initialized (env m0.known) t ≡ true = search rules in
     let st = state_of texts false c.args.s.now m0 in
-    let none : None ≡ option_map (behind (stores_in m0 c.args.out.now.items)) (initialized values c.args.lasting (whole t) i st) = rw c.in_default.is at c.in_ok-count.ensures.typed in
-    given_none c.args.lasting texts m0 c.args.s.now t i can (none ∙ ap (λ xs. option_map (behind (stores_in m0 xs)) (initialized values c.args.lasting (whole t) i st)) c.requires.none)
+    let none : None ≡ option_map (behind (stores_in m0 c.args.out.now.items)) (initializer_stores values c.args.lasting (whole_object t) i st) = rw c.in_default.is at c.in_ok-count.ensures.typed in
+    given_none c.args.lasting texts m0 c.args.s.now t i can (none ∙ ap (λ xs. option_map (behind (stores_in m0 xs)) (initializer_stores values c.args.lasting (whole_object t) i st)) c.requires.none)
 
 pub sized-requires-clause-can : goal.sized-requires-clause-can
 sized-requires-clause-can c =
@@ -71,11 +71,11 @@ returns-clause-typed c =
     let fills : FillsIf m0 m1 s1 out (Some c.in-Some.count) = rw c.in-Some.is at c.in_ok-count.ensures.fills in
     let st = state_of texts false c.args.s.now m0 in
     let count = c.in-Some.count in
-    let typed : stores_if texts s1 m1 out (Some count) ≡ option_map (behind (stores_in m0 c.args.out.now.items)) (initialized values c.args.lasting (whole t) i st) = rw c.in-Some.is at c.in_ok-count.ensures.typed in
-    let braced : c.is_braced-braced.result ≡ is_braced (completions m0.known) (whole t) i = rw c.types-2.ensures at c.is_braced-braced.ensures in
-    let tree_is = c.in_ok-complete.ensures.tree ∙ ap (λ (u : Ty). sized u count) (fills.goes.grown.types c.args.whole.0 c.requires.known) in
+    let typed : stores_if texts s1 m1 out (Some count) ≡ option_map (behind (stores_in m0 c.args.out.now.items)) (initializer_stores values c.args.lasting (whole_object t) i st) = rw c.in-Some.is at c.in_ok-count.ensures.typed in
+    let braced : c.is_braced-braced.result ≡ is_braced (completions m0.known) (whole_object t) i = rw c.types-2.ensures at c.is_braced-braced.ensures in
+    let tree_is = c.in_ok-complete.ensures.tree ∙ ap (λ (u : Ty). with_size u count) (fills.goes.grown.types c.args.whole.0 c.requires.known) in
     given_done c.args.lasting texts m0 c.args.s.now t i m1 c.sized.new.into s1 count out (record { t = c.in_ok-complete.complete; braced = c.is_braced-braced.result }) can fills c.in_ok-complete.ensures.kept
-    (typed ∙ ap (λ xs. option_map (behind (stores_in m0 xs)) (initialized values c.args.lasting (whole t) i st)) c.requires.none) tree_is braced
+    (typed ∙ ap (λ xs. option_map (behind (stores_in m0 xs)) (initializer_stores values c.args.lasting (whole_object t) i st)) c.requires.none) tree_is braced
 
 pub returns-clause-fills : goal.returns-clause-fills
 returns-clause-fills c =

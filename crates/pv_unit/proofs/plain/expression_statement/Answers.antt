@@ -4,7 +4,7 @@ use Rattle.pv_tree.specs.Tables.{tree_at, optional_at}
 use Rattle.pv_typed.specs.NodeTrees.{statement_at}
 use Rattle.pv_check.specs.Open.{state_of}
 use Rattle.pv_unit.specs.Stated.{around_in, optional_in, Moves}
-use Rattle.pv_unit.specs.Statements.{optional, valued}
+use Rattle.pv_unit.specs.Statements.{expression_if_any, taken_value}
 use Rattle.pv_unit.specs.TypedStatements.{typed_statement}
 use Rattle.pv_unit.specs.Made.{expression_made, expression_of}
 use Rattle.pv_unit.proofs.Moving.{made_is, moves_on, step_on}
@@ -24,8 +24,8 @@ returns-clause-typed c =
     let s = c.optional_value.new.s in
     let line = tree_line (tree_at f c.args.n) in
     let z0 = state_of texts false c.args.s.now c.args.into.now in
-    let e1 : Some (choice_in texts c.optional_value.new.s c.optional_value.new.into c.in-Some.value) ≡ optional valued (optional_at f c.args.a) z0 = search rules in
+    let e1 : Some (choice_in texts c.optional_value.new.s c.optional_value.new.into c.in-Some.value) ≡ expression_if_any taken_value (optional_at f c.args.a) z0 = search rules in
     let is : statement_at c.add_expression.new.into c.in_ok-made.made ≡ expression_of line (optional_in b c.in-Some.value) = search rules in
-    step_on (optional valued (optional_at f c.args.a) z0) (choice_in texts s b c.in-Some.value) (expression_made line) _ e1
+    step_on (expression_if_any taken_value (optional_at f c.args.a) z0) (choice_in texts s b c.in-Some.value) (expression_made line) _ e1
     (made_is texts s b c.add_expression.new.into c.in_ok-made.made (expression_of line (optional_in b c.in-Some.value)) is (c.in_ok-made.ensures.state texts))
     ∙ sym (ap (λ x. typed_statement (around_in c.args.into.now.known c.args.w) x z0) c.requires.is)

@@ -3,8 +3,8 @@ use Rattle.std.specs.Prelude.{if◌then◌else◌}
 use Rattle.pv_types.specs.Known.{tree}
 use Rattle.pv_typed.specs.TypedTree.{type_of}
 use Rattle.pv_typed.specs.NodeTrees.{expression_at}
-use Rattle.pv_types.specs.Sorts.{bare}
-use Rattle.pv_check.specs.Values.{may_assign, converted}
+use Rattle.pv_types.specs.Sorts.{bare_type}
+use Rattle.pv_check.specs.Values.{may_assign, conversion_to}
 use Rattle.pv_check.proofs.ArmLaws.{goes_kept}
 use Rattle.pv_check.proofs.Opening.{state_stays}
 use Rattle.pv_unit.proofs.Moving.{moves_tables}
@@ -18,6 +18,6 @@ returns-clause-state c = λ texts. state_stays texts false c.args.into.now c.ass
 
 pub returns-clause-typed : goal.returns-clause-typed
 returns-clause-typed c =
-    let t = bare (tree c.args.into.now.known c.args.wanted.0) in
+    let t = bare_type (tree c.args.into.now.known c.args.wanted.0) in
     let e = expression_at c.args.into.now c.args.a in
-    c.in_ok-r.ensures.typed ∙ ap (λ b. if may_assign t (type_of e) b then Some (converted t e) else None) c.is_null_constant-null.ensures
+    c.in_ok-r.ensures.typed ∙ ap (λ b. if may_assign t (type_of e) b then Some (conversion_to t e) else None) c.is_null_constant-null.ensures

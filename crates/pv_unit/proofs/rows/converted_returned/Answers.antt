@@ -6,7 +6,7 @@ use Rattle.pv_typed.specs.NodeTrees.{expression_at, statement_at}
 use Rattle.pv_check.specs.Open.{state_of}
 use Rattle.pv_types.specs.Sorts.{is_void}
 use Rattle.pv_check.specs.State.{give}
-use Rattle.pv_check.specs.Values.{assigned}
+use Rattle.pv_check.specs.Values.{as_if_assigned}
 use Rattle.pv_unit.proofs.Moving.{made_is, moves_on, step_on}
 use Rattle.pv_unit.proofs.ValueRows.{returned_not}
 use Rattle.pv_unit.proofs.rows.converted_returned.Goals as goal
@@ -24,8 +24,8 @@ returns-clause-typed c = λ texts.
     let t = tree a.known c.args.returned.0 in
     let z = state_of texts false s a in
     let no : is_void (tree a.known c.args.returned.0) ≡ false = search rules in
-    let some : Some (expression_at b c.in-Some.converted) ≡ assigned (tree a.known c.args.returned.0) (expression_at a c.args.value) = search rules in
+    let some : Some (expression_at b c.in-Some.converted) ≡ as_if_assigned (tree a.known c.args.returned.0) (expression_at a c.args.value) = search rules in
     let is : statement_at c.add.new.into c.in_ok-made.made ≡ Return c.args.line (Some (expression_at b c.in-Some.converted)) = search rules in
     returned_not t c.args.line (record { value = expression_at a c.args.value; state = z }) _ no
-    (step_on (assigned t (expression_at a c.args.value)) (expression_at b c.in-Some.converted) (λ (e : TypedTree). give (Some (Return c.args.line (Some e))) z) _ some
+    (step_on (as_if_assigned t (expression_at a c.args.value)) (expression_at b c.in-Some.converted) (λ (e : TypedTree). give (Some (Return c.args.line (Some e))) z) _ some
     (made_is texts s a c.add.new.into c.in_ok-made.made (Return c.args.line (Some (expression_at b c.in-Some.converted))) is (c.in_ok-made.ensures.state texts ∙ c.in_ok-converted.ensures.state texts)))

@@ -6,14 +6,14 @@ use Rattle.pv_tree.specs.Tables.{tree_at, trees_of, trees_at, expression_at as e
 use Rattle.pv_typed.specs.NodeTrees.{expression_at, statement_at, IsExpression, IsStatement}
 use Rattle.pv_typed.specs.TypedStatement as typed
 use Rattle.pv_check.specs.Open.{state_of}
-use Rattle.pv_check.specs.Scopes.{entered}
+use Rattle.pv_check.specs.Scopes.{in_new_scope}
 use Rattle.pv_check.proofs.Descending.{has_at, optional_within}
-use Rattle.pv_unit.specs.Statements.{condition, switched, typed_labels, under, block_of}
+use Rattle.pv_unit.specs.Statements.{condition, switch_value, typed_labels, under, block_of}
 use Rattle.pv_unit.specs.StatementParts.{in_switch}
 use Rattle.pv_unit.specs.TypedStatements.{typed_statement, typed_items, typed_item, switch_block, switch_items, switch_item}
 use Rattle.pv_unit.specs.Made.{if_made, switch_made, block_made, with_statement, body_made}
-use Rattle.pv_unit.specs.Scoped.{inner, if_behind, switch_behind, scoped, switch_body, labelled_statement}
-use Rattle.pv_unit.specs.Stated.{around_in, stated, statements_in, items_in, AreStatements, Moves}
+use Rattle.pv_unit.specs.Scoped.{inner, if_behind, switch_behind, scoped_statement, switch_body, labelled_statement}
+use Rattle.pv_unit.specs.Stated.{around_in, statement_after, statements_in, items_in, AreStatements, Moves}
 use Rattle.pv_tree.specs.Places.{is_switch_block}
 use Rattle.pv_unit.specs.Switching.{labels_of, labels_if, behind_labels, switched_in, body_in, marked_if, is_labelled}
 use Rattle.pv_unit.proofs.ItemRows.{item_declared, item_stated, item_pushed, pushed_there}
@@ -35,7 +35,7 @@ inner-returns-in_default-clause-typed t c =
     let w0 = around_in c.args.into.now.known c.args.w in
     let z0 = state_of texts false c.args.s.now c.args.into.now in
     let held : None ≡ typed_statement w0 (statement_of f c.args.n) (state_of texts false c.enter.new.s c.args.into.now) = search rules in
-    none_left (typed_statement w0 (statement_of f c.args.n) (entered z0)) (held ∙ ap (typed_statement w0 (statement_of f c.args.n)) (c.in_ok-enter.ensures.state texts))
+    none_left (typed_statement w0 (statement_of f c.args.n) (in_new_scope z0)) (held ∙ ap (typed_statement w0 (statement_of f c.args.n)) (c.in_ok-enter.ensures.state texts))
 
 pub inner-leave-requires-clause-within : goal.inner-leave-requires-clause-within
 inner-leave-requires-clause-within t c =
@@ -53,8 +53,8 @@ inner-returns-clause-typed t c =
     let f = c.args.u.now.forest in
     let w0 = around_in c.args.into.now.known c.args.w in
     let z0 = state_of texts false c.args.s.now c.args.into.now in
-    let held : Some (stated texts c.statement.new.s c.statement.new.into c.in-Some.made) ≡ typed_statement w0 (statement_of f c.args.n) (state_of texts false c.enter.new.s c.args.into.now) = search rules in
-    scope_left texts c.statement.new.s c.leave.new.s c.statement.new.into c.in-Some.made (typed_statement w0 (statement_of f c.args.n) (entered z0)) (held ∙ ap (typed_statement w0 (statement_of f c.args.n)) (c.in_ok-enter.ensures.state texts)) (c.leave.ensures.state texts)
+    let held : Some (statement_after texts c.statement.new.s c.statement.new.into c.in-Some.made) ≡ typed_statement w0 (statement_of f c.args.n) (state_of texts false c.enter.new.s c.args.into.now) = search rules in
+    scope_left texts c.statement.new.s c.leave.new.s c.statement.new.into c.in-Some.made (typed_statement w0 (statement_of f c.args.n) (in_new_scope z0)) (held ∙ ap (typed_statement w0 (statement_of f c.args.n)) (c.in_ok-enter.ensures.state texts)) (c.leave.ensures.state texts)
 
 pub in_scope-returns-in_default-clause-typed : goal.in_scope-returns-in_default-clause-typed
 in_scope-returns-in_default-clause-typed t c =
@@ -62,8 +62,8 @@ in_scope-returns-in_default-clause-typed t c =
     let f = c.args.u.now.forest in
     let w0 = around_in c.args.into.now.known c.args.w in
     let z0 = state_of texts false c.args.s.now c.args.into.now in
-    let held : None ≡ scoped w0 (statement_of f c.args.n) (state_of texts false c.enter.new.s c.args.into.now) = search rules in
-    none_left (scoped w0 (statement_of f c.args.n) (entered z0)) (held ∙ ap (scoped w0 (statement_of f c.args.n)) (c.in_ok-enter.ensures.state texts)) ∙ scope_is w0 (statement_of f c.args.n) z0 c.requires.scope
+    let held : None ≡ scoped_statement w0 (statement_of f c.args.n) (state_of texts false c.enter.new.s c.args.into.now) = search rules in
+    none_left (scoped_statement w0 (statement_of f c.args.n) (in_new_scope z0)) (held ∙ ap (scoped_statement w0 (statement_of f c.args.n)) (c.in_ok-enter.ensures.state texts)) ∙ scope_is w0 (statement_of f c.args.n) z0 c.requires.scope
 
 pub in_scope-leave-requires-clause-within : goal.in_scope-leave-requires-clause-within
 in_scope-leave-requires-clause-within t c =
@@ -81,8 +81,8 @@ in_scope-returns-clause-typed t c =
     let f = c.args.u.now.forest in
     let w0 = around_in c.args.into.now.known c.args.w in
     let z0 = state_of texts false c.args.s.now c.args.into.now in
-    let held : Some (stated texts c.scoped.new.s c.scoped.new.into c.in-Some.made) ≡ scoped w0 (statement_of f c.args.n) (state_of texts false c.enter.new.s c.args.into.now) = search rules in
-    scope_left texts c.scoped.new.s c.leave.new.s c.scoped.new.into c.in-Some.made (scoped w0 (statement_of f c.args.n) (entered z0)) (held ∙ ap (scoped w0 (statement_of f c.args.n)) (c.in_ok-enter.ensures.state texts)) (c.leave.ensures.state texts) ∙ scope_is w0 (statement_of f c.args.n) z0 c.requires.scope
+    let held : Some (statement_after texts c.scoped.new.s c.scoped.new.into c.in-Some.made) ≡ scoped_statement w0 (statement_of f c.args.n) (state_of texts false c.enter.new.s c.args.into.now) = search rules in
+    scope_left texts c.scoped.new.s c.leave.new.s c.scoped.new.into c.in-Some.made (scoped_statement w0 (statement_of f c.args.n) (in_new_scope z0)) (held ∙ ap (scoped_statement w0 (statement_of f c.args.n)) (c.in_ok-enter.ensures.state texts)) (c.leave.ensures.state texts) ∙ scope_is w0 (statement_of f c.args.n) z0 c.requires.scope
 
 pub switch_block-returns-in_default-clause-typed : goal.switch_block-returns-in_default-clause-typed
 switch_block-returns-in_default-clause-typed t c =
@@ -91,7 +91,7 @@ switch_block-returns-in_default-clause-typed t c =
     let w0 = around_in c.args.into.now.known c.args.w in
     let z0 = state_of texts false c.args.s.now c.args.into.now in
     let held : None ≡ switch_body w0 c.args.kind (statement_of f c.args.n) (state_of texts false c.enter.new.s c.args.into.now) = search rules in
-    none_left (switch_body w0 c.args.kind (statement_of f c.args.n) (entered z0)) (held ∙ ap (switch_body w0 c.args.kind (statement_of f c.args.n)) (c.in_ok-enter.ensures.state texts)) ∙ block_scope w0 c.args.kind (statement_of f c.args.n) z0
+    none_left (switch_body w0 c.args.kind (statement_of f c.args.n) (in_new_scope z0)) (held ∙ ap (switch_body w0 c.args.kind (statement_of f c.args.n)) (c.in_ok-enter.ensures.state texts)) ∙ block_scope w0 c.args.kind (statement_of f c.args.n) z0
 
 pub switch_block-leave-requires-clause-within : goal.switch_block-leave-requires-clause-within
 switch_block-leave-requires-clause-within t c =
@@ -109,8 +109,8 @@ switch_block-returns-clause-typed t c =
     let f = c.args.u.now.forest in
     let w0 = around_in c.args.into.now.known c.args.w in
     let z0 = state_of texts false c.args.s.now c.args.into.now in
-    let held : Some (stated texts c.switch_body.new.s c.switch_body.new.into c.in-Some.made) ≡ switch_body w0 c.args.kind (statement_of f c.args.n) (state_of texts false c.enter.new.s c.args.into.now) = search rules in
-    scope_left texts c.switch_body.new.s c.leave.new.s c.switch_body.new.into c.in-Some.made (switch_body w0 c.args.kind (statement_of f c.args.n) (entered z0)) (held ∙ ap (switch_body w0 c.args.kind (statement_of f c.args.n)) (c.in_ok-enter.ensures.state texts)) (c.leave.ensures.state texts) ∙ block_scope w0 c.args.kind (statement_of f c.args.n) z0
+    let held : Some (statement_after texts c.switch_body.new.s c.switch_body.new.into c.in-Some.made) ≡ switch_body w0 c.args.kind (statement_of f c.args.n) (state_of texts false c.enter.new.s c.args.into.now) = search rules in
+    scope_left texts c.switch_body.new.s c.leave.new.s c.switch_body.new.into c.in-Some.made (switch_body w0 c.args.kind (statement_of f c.args.n) (in_new_scope z0)) (held ∙ ap (switch_body w0 c.args.kind (statement_of f c.args.n)) (c.in_ok-enter.ensures.state texts)) (c.leave.ensures.state texts) ∙ block_scope w0 c.args.kind (statement_of f c.args.n) z0
 
 pub if_statement-returns-in_default-clause-typed : goal.if_statement-returns-in_default-clause-typed
 if_statement-returns-in_default-clause-typed t c =
@@ -120,7 +120,7 @@ if_statement-returns-in_default-clause-typed t c =
     let z0 = state_of texts false c.args.s.now c.args.into.now in
     let line = tree_line (tree_at f c.args.n) in
     let held : None ≡ condition (expression_of f c.args.a) z0 = search rules in
-    step_none (condition (expression_of f c.args.a) z0) (if_behind w0 line (statement_of f c.args.body)) held ∙ sym (ap (λ x. scoped w0 x z0) c.requires.is)
+    step_none (condition (expression_of f c.args.a) z0) (if_behind w0 line (statement_of f c.args.body)) held ∙ sym (ap (λ x. scoped_statement w0 x z0) c.requires.is)
 
 pub if_statement-returns-in_default-2-clause-typed : goal.if_statement-returns-in_default-2-clause-typed
 if_statement-returns-in_default-2-clause-typed t c =
@@ -133,7 +133,7 @@ if_statement-returns-in_default-2-clause-typed t c =
     let first : Some (valued_in texts c.condition.new.s c.condition.new.into c.in-Some.value) ≡ condition (expression_of f c.args.a) z0 = search rules in
     let held : None ≡ inner (around_in c.condition.new.into.known c.args.w) (statement_of f c.args.body) (state_of texts false c.condition.new.s c.condition.new.into) = search rules in
     step_on (condition (expression_of f c.args.a) z0) (valued_in texts c.condition.new.s c.condition.new.into c.in-Some.value) (if_behind w0 line (statement_of f c.args.body)) None first
-    (step_none (inner w0 (statement_of f c.args.body) (state_of texts false c.condition.new.s c.condition.new.into)) (if_made line (expression_at c.condition.new.into c.in-Some.value)) (held ∙ inner_same c.args.into.now c.condition.new.into c.args.w (statement_of f c.args.body) (state_of texts false c.condition.new.s c.condition.new.into) g.goes c.requires.known)) ∙ sym (ap (λ x. scoped w0 x z0) c.requires.is)
+    (step_none (inner w0 (statement_of f c.args.body) (state_of texts false c.condition.new.s c.condition.new.into)) (if_made line (expression_at c.condition.new.into c.in-Some.value)) (held ∙ inner_same c.args.into.now c.condition.new.into c.args.w (statement_of f c.args.body) (state_of texts false c.condition.new.s c.condition.new.into) g.goes c.requires.known)) ∙ sym (ap (λ x. scoped_statement w0 x z0) c.requires.is)
 
 pub if_statement-add-requires-clause-parts : goal.if_statement-add-requires-clause-parts
 if_statement-add-requires-clause-parts t c =
@@ -159,9 +159,9 @@ if_statement-returns-clause-typed t c =
     let h : Moves c.condition.new.into c.condition.new.s c.inner.new.into c.inner.new.s = search rules in
     let first : Some (valued_in texts c.condition.new.s c.condition.new.into c.in-Some.value) ≡ condition (expression_of f c.args.a) z0 = search rules in
     let is_v : IsExpression c.condition.new.into c.in-Some.value = search rules in
-    let second : Some (stated texts c.inner.new.s c.inner.new.into c.in-Some-2.taken) ≡ inner (around_in c.condition.new.into.known c.args.w) (statement_of f c.args.body) (state_of texts false c.condition.new.s c.condition.new.into) = search rules in
+    let second : Some (statement_after texts c.inner.new.s c.inner.new.into c.in-Some-2.taken) ≡ inner (around_in c.condition.new.into.known c.args.w) (statement_of f c.args.body) (state_of texts false c.condition.new.s c.condition.new.into) = search rules in
     let tree : statement_at c.add.new.into c.in_ok-made.made ≡ typed.If line (expression_at c.inner.new.into c.in-Some.value) (statement_at c.inner.new.into c.in-Some-2.taken) = search rules in
-    if_done texts c.args.w line (expression_of f c.args.a) (statement_of f c.args.body) c.args.into.now c.condition.new.into c.inner.new.into c.add.new.into c.args.s.now c.condition.new.s c.inner.new.s c.in-Some.value c.in-Some-2.taken c.in_ok-made.made c.requires.known g.goes h.goes is_v first second tree (c.in_ok-made.ensures.state texts) ∙ sym (ap (λ x. scoped w0 x z0) c.requires.is)
+    if_done texts c.args.w line (expression_of f c.args.a) (statement_of f c.args.body) c.args.into.now c.condition.new.into c.inner.new.into c.add.new.into c.args.s.now c.condition.new.s c.inner.new.s c.in-Some.value c.in-Some-2.taken c.in_ok-made.made c.requires.known g.goes h.goes is_v first second tree (c.in_ok-made.ensures.state texts) ∙ sym (ap (λ x. scoped_statement w0 x z0) c.requires.is)
 
 pub while_statement-returns-in_default-clause-typed : goal.while_statement-returns-in_default-clause-typed
 while_statement-returns-in_default-clause-typed = loops.while_statement-returns-in_default-clause-typed
@@ -267,7 +267,7 @@ block_statement-returns-then-not-branch-clause-typed t c =
     let z0 = state_of texts false c.args.s.now c.args.into.now in
     let line = tree_line (tree_at f c.args.n) in
     let held : None ≡ (typed_items w0 (trees_at f c.args.list) z0) = search rules in
-    step_none (typed_items w0 (trees_at f c.args.list) z0) (block_made line) held ∙ sym (ap (λ x. scoped w0 x z0) c.requires.is)
+    step_none (typed_items w0 (trees_at f c.args.list) z0) (block_made line) held ∙ sym (ap (λ x. scoped_statement w0 x z0) c.requires.is)
 
 pub block_statement-returns-clause-moves : goal.block_statement-returns-clause-moves
 block_statement-returns-clause-moves t c =
@@ -283,7 +283,7 @@ block_statement-returns-clause-typed t c =
     let line = tree_line (tree_at f c.args.n) in
     let first : Some (items_in texts c.all_items.new.s c.all_items.new.into c.all_items.new.items.items) ≡ (typed_items w0 (trees_at f c.args.list) z0) = search rules in
     let tree : statement_at c.add_block.new.into c.in_ok-made.made ≡ block_of line (statements_in c.all_items.new.into c.all_items.new.items.items) = search rules in
-    block_done texts c.args.w line (typed_items w0 (trees_at f c.args.list) z0) c.all_items.new.into c.add_block.new.into c.all_items.new.s c.all_items.new.items.items c.in_ok-made.made first tree (c.in_ok-made.ensures.state texts) ∙ sym (ap (λ x. scoped w0 x z0) c.requires.is)
+    block_done texts c.args.w line (typed_items w0 (trees_at f c.args.list) z0) c.all_items.new.into c.add_block.new.into c.all_items.new.s c.all_items.new.items.items c.in_ok-made.made first tree (c.in_ok-made.ensures.state texts) ∙ sym (ap (λ x. scoped_statement w0 x z0) c.requires.is)
 
 pub switch_body-returns-in_default-clause-typed : goal.switch_body-returns-in_default-clause-typed
 switch_body-returns-in_default-clause-typed t c =
@@ -327,8 +327,8 @@ switch_statement-returns-in_default-clause-typed t c =
     let w0 = around_in c.args.into.now.known c.args.w in
     let z0 = state_of texts false c.args.s.now c.args.into.now in
     let line = tree_line (tree_at f c.args.n) in
-    let held : None ≡ switched (expression_of f c.args.a) z0 = search rules in
-    step_none (switched (expression_of f c.args.a) z0) (switch_behind w0 line (statement_of f c.args.body)) held ∙ sym (ap (λ x. scoped w0 x z0) c.requires.is)
+    let held : None ≡ switch_value (expression_of f c.args.a) z0 = search rules in
+    step_none (switch_value (expression_of f c.args.a) z0) (switch_behind w0 line (statement_of f c.args.body)) held ∙ sym (ap (λ x. scoped_statement w0 x z0) c.requires.is)
 
 pub switch_statement-returns-in_default-2-clause-typed : goal.switch_statement-returns-in_default-2-clause-typed
 switch_statement-returns-in_default-2-clause-typed t c =
@@ -338,10 +338,10 @@ switch_statement-returns-in_default-2-clause-typed t c =
     let z0 = state_of texts false c.args.s.now c.args.into.now in
     let line = tree_line (tree_at f c.args.n) in
     let g : Moves c.args.into.now c.args.s.now c.switched.new.into c.switched.new.s = search rules in
-    let first : Some (switched_in texts c.switched.new.s c.switched.new.into c.in-Some.controlling) ≡ switched (expression_of f c.args.a) z0 = search rules in
+    let first : Some (switched_in texts c.switched.new.s c.switched.new.into c.in-Some.controlling) ≡ switch_value (expression_of f c.args.a) z0 = search rules in
     let held : None ≡ switch_block (around_in c.switched.new.into.known c.args.w) c.in-Some.controlling.kind (statement_of f c.args.body) (state_of texts false c.switched.new.s c.switched.new.into) = search rules in
-    step_on (switched (expression_of f c.args.a) z0) (switched_in texts c.switched.new.s c.switched.new.into c.in-Some.controlling) (switch_behind w0 line (statement_of f c.args.body)) None first
-    (step_none (switch_block w0 c.in-Some.controlling.kind (statement_of f c.args.body) (state_of texts false c.switched.new.s c.switched.new.into)) (switch_made line (expression_at c.switched.new.into c.in-Some.controlling.value)) (held ∙ ap (λ y. switch_block y c.in-Some.controlling.kind (statement_of f c.args.body) (state_of texts false c.switched.new.s c.switched.new.into)) (around_same c.args.into.now c.switched.new.into c.args.w g.goes c.requires.known))) ∙ sym (ap (λ x. scoped w0 x z0) c.requires.is)
+    step_on (switch_value (expression_of f c.args.a) z0) (switched_in texts c.switched.new.s c.switched.new.into c.in-Some.controlling) (switch_behind w0 line (statement_of f c.args.body)) None first
+    (step_none (switch_block w0 c.in-Some.controlling.kind (statement_of f c.args.body) (state_of texts false c.switched.new.s c.switched.new.into)) (switch_made line (expression_at c.switched.new.into c.in-Some.controlling.value)) (held ∙ ap (λ y. switch_block y c.in-Some.controlling.kind (statement_of f c.args.body) (state_of texts false c.switched.new.s c.switched.new.into)) (around_same c.args.into.now c.switched.new.into c.args.w g.goes c.requires.known))) ∙ sym (ap (λ x. scoped_statement w0 x z0) c.requires.is)
 
 pub switch_statement-add-requires-clause-parts : goal.switch_statement-add-requires-clause-parts
 switch_statement-add-requires-clause-parts t c =
@@ -365,11 +365,11 @@ switch_statement-returns-clause-typed t c =
     let line = tree_line (tree_at f c.args.n) in
     let g : Moves c.args.into.now c.args.s.now c.switched.new.into c.switched.new.s = search rules in
     let h : Moves c.switched.new.into c.switched.new.s c.switch_block.new.into c.switch_block.new.s = search rules in
-    let first : Some (switched_in texts c.switched.new.s c.switched.new.into c.in-Some.controlling) ≡ switched (expression_of f c.args.a) z0 = search rules in
+    let first : Some (switched_in texts c.switched.new.s c.switched.new.into c.in-Some.controlling) ≡ switch_value (expression_of f c.args.a) z0 = search rules in
     let is_v : IsExpression c.switched.new.into c.in-Some.controlling.value = search rules in
-    let second : Some (stated texts c.switch_block.new.s c.switch_block.new.into c.in-Some-2.block) ≡ switch_block (around_in c.switched.new.into.known c.args.w) c.in-Some.controlling.kind (statement_of f c.args.body) (state_of texts false c.switched.new.s c.switched.new.into) = search rules in
+    let second : Some (statement_after texts c.switch_block.new.s c.switch_block.new.into c.in-Some-2.block) ≡ switch_block (around_in c.switched.new.into.known c.args.w) c.in-Some.controlling.kind (statement_of f c.args.body) (state_of texts false c.switched.new.s c.switched.new.into) = search rules in
     let tree : statement_at c.add.new.into c.in_ok-made.made ≡ typed.Switch line (expression_at c.switch_block.new.into c.in-Some.controlling.value) (statement_at c.switch_block.new.into c.in-Some-2.block) = search rules in
-    switch_done texts c.args.w line (expression_of f c.args.a) (statement_of f c.args.body) c.args.into.now c.switched.new.into c.switch_block.new.into c.add.new.into c.args.s.now c.switched.new.s c.switch_block.new.s c.in-Some.controlling c.in-Some-2.block c.in_ok-made.made c.requires.known g.goes h.goes is_v first second tree (c.in_ok-made.ensures.state texts) ∙ sym (ap (λ x. scoped w0 x z0) c.requires.is)
+    switch_done texts c.args.w line (expression_of f c.args.a) (statement_of f c.args.body) c.args.into.now c.switched.new.into c.switch_block.new.into c.add.new.into c.args.s.now c.switched.new.s c.switch_block.new.s c.in-Some.controlling c.in-Some-2.block c.in_ok-made.made c.requires.known g.goes h.goes is_v first second tree (c.in_ok-made.ensures.state texts) ∙ sym (ap (λ x. scoped_statement w0 x z0) c.requires.is)
 
 pub item-returns-then-is_declaration-clause-typed : goal.item-returns-then-is_declaration-clause-typed
 item-returns-then-is_declaration-clause-typed t c =
@@ -404,7 +404,7 @@ item-returns-clause-typed t c =
     let z0 = state_of texts false c.args.s.now c.args.into.now in
     let g : Moves c.args.into.now c.args.s.now c.statement.new.into c.statement.new.s = search rules in
     let other : is_declaration (tree_at f c.args.n) ≡ false = search rules in
-    let held : Some (stated texts c.statement.new.s c.statement.new.into c.in-Some.made) ≡ typed_statement w0 (statement_of f c.args.n) z0 = search rules in
+    let held : Some (statement_after texts c.statement.new.s c.statement.new.into c.in-Some.made) ≡ typed_statement w0 (statement_of f c.args.n) z0 = search rules in
     item_stated w0 (tree_at f c.args.n) (items_in texts c.args.s.now c.args.into.now c.args.items.now.items) _ c.requires.node.1 other (item_pushed texts (typed_statement w0 (statement_of f c.args.n) z0) c.args.into.now c.statement.new.into c.statement.new.s c.args.items.now.items c.push.new.self.items c.in-Some.made g.goes c.requires.items held c.in_ok-push.ensures.items)
 
 pub all_items-loop-node-init : goal.all_items-loop-node-init
@@ -490,7 +490,7 @@ under_labels-returns-clause-typed t c =
     let z0 = state_of texts false c.args.s.now c.args.into.now in
     let g : Moves c.args.into.now c.args.s.now c.all_labels.new.into c.all_labels.new.s = search rules in
     let first : labels_if texts c.all_labels.new.s c.all_labels.new.into c.all_labels.new.labels.all.items true ≡ behind_labels (labels_of c.args.labels.now.all.items) (typed_labels c.args.kind (labels_of c.args.labels.now.all.items) (trees_at f c.args.list) z0) = search rules in
-    let second : Some (stated texts c.statement.new.s c.statement.new.into c.in-Some.made) ≡ typed_statement (around_in c.all_labels.new.into.known c.args.w) (statement_of f c.args.body) (state_of texts false c.all_labels.new.s c.all_labels.new.into) = search rules in
+    let second : Some (statement_after texts c.statement.new.s c.statement.new.into c.in-Some.made) ≡ typed_statement (around_in c.all_labels.new.into.known c.args.w) (statement_of f c.args.body) (state_of texts false c.all_labels.new.s c.all_labels.new.into) = search rules in
     let from : c.len-before.result ≡ length c.args.labels.now.all.items = search rules in
     let tree : statement_at c.under.new.into c.in_ok-marked.marked ≡ under (labels_of (drop c.len-before.result c.all_labels.new.labels.all.items)) (statement_at c.statement.new.into c.in-Some.made) = search rules in
     under_done texts c.args.w (statement_of f c.args.body) c.args.into.now c.all_labels.new.into c.statement.new.into c.under.new.into c.args.s.now c.all_labels.new.s c.statement.new.s c.args.labels.now.all.items c.all_labels.new.labels.all.items (typed_labels c.args.kind (labels_of c.args.labels.now.all.items) (trees_at f c.args.list) z0) c.in-Some.made c.in_ok-marked.marked c.requires.known g.goes first second

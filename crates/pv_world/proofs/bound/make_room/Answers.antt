@@ -1,7 +1,7 @@
 use Rattle.std.proofs.Common.{◌<◌, length, ap, ◌∙◌, arith}
 use Rattle.std.specs.FinMap.{from_entries}
 use Rattle.pv_inst.proofs.Counts.{one_said}
-use Rattle.pv_world.specs.BoundParts.{laid}
+use Rattle.pv_world.specs.BoundParts.{with_bindings}
 use Rattle.pv_world.proofs.Bindings.{oldest_laid}
 use Rattle.pv_world.proofs.bound.make_room.Goals as goal
 
@@ -12,7 +12,7 @@ returns-clause-same c =
     let xs = c.args.few.now.items in
     let e = c.remove-oldest.result in
     let some : 0 < length xs = omega (arith, c.remove-oldest.ensures.len) in
-    ap (laid (from_entries fs)) c.remove-oldest.ensures.items
+    ap (with_bindings (from_entries fs)) c.remove-oldest.ensures.items
     ∙ oldest_laid xs e (from_entries es) (from_entries fs) some c.remove-oldest.ensures.value (one_said es fs e.0 e.1 c.in_ok-insert.ensures.updates.0)
 
 pub returns-clause-room : goal.returns-clause-room

@@ -6,7 +6,7 @@ use Rattle.pv_tree.specs.Places.{Initializers}
 use Rattle.pv_tree.specs.Syntax.{Initial, Braces, Tree, Trees, OfInitializer}
 use Rattle.pv_tree.specs.Tables.{expression_at, trees_of, is_expression, is_initializer}
 use Rattle.pv_tree.proofs.Kept.{extends_same, extends_then}
-use Rattle.pv_decl_forms.specs.Pieces.{listed}
+use Rattle.pv_decl_forms.specs.Pieces.{comma_list}
 use Rattle.pv_decl_forms.specs.Reader.{listed_in_braces, readers}
 use Rattle.pv_decl_forms.proofs.Growing.{all_as}
 use Rattle.pv_decl_forms.proofs.Answered.{moved, nothing, got}
@@ -68,20 +68,20 @@ pub initializers-returns-in_default : goal.initializers-returns-in_default
 initializers-returns-in_default g t c = record {
   keeps = extends_then _ _ _ c.loop-parts.invariant.keeps c.initializer.ensures.keeps;
   answer =
-      list_done (list_map c.args.self.now.lists.now) c.args.self.now.source.typedefs.now (g.R.TypeReader.types c.args.self.now.source.reader.now) c.args.into.now c.loop-parts.into c.initializer.new.into c.args.self.now.source.tokens.now.tokens c.requires.tied c.loop-parts.invariant.keeps c.initializer.ensures.keeps is_initializer c.args.depth Initializers c.loop-parts.parts.items c.loop-parts.invariant.nodes c.loop-parts.next c.loop-parts.invariant.place c.in_ok-found.field-0 c.in_ok-found.ensures.answer c.loop-parts.behind c.loop-parts.invariant.where_behind (listed (readers (known_names g.R.TypeReader.types c.args.self.now.source c.args.into.now) c.args.depth Initializers) (drop c.args.at c.args.self.now.source.tokens.now.tokens)) c.loop-parts.invariant.same c.in_default.is;
+      list_done (list_map c.args.self.now.lists.now) c.args.self.now.source.typedefs.now (g.R.TypeReader.types c.args.self.now.source.reader.now) c.args.into.now c.loop-parts.into c.initializer.new.into c.args.self.now.source.tokens.now.tokens c.requires.tied c.loop-parts.invariant.keeps c.initializer.ensures.keeps is_initializer c.args.depth Initializers c.loop-parts.parts.items c.loop-parts.invariant.nodes c.loop-parts.next c.loop-parts.invariant.place c.in_ok-found.field-0 c.in_ok-found.ensures.answer c.loop-parts.behind c.loop-parts.invariant.where_behind (comma_list (readers (known_names g.R.TypeReader.types c.args.self.now.source c.args.into.now) c.args.depth Initializers) (drop c.args.at c.args.self.now.source.tokens.now.tokens)) c.loop-parts.invariant.same c.in_default.is;
 }
 
 pub initializers-loop-parts-smaller : goal.initializers-loop-parts-smaller
 initializers-loop-parts-smaller g t c = omega (arith, past_comma (list_map c.args.self.now.lists.now) c.args.self.now.source.typedefs.now (g.R.TypeReader.types c.args.self.now.source.reader.now) c.args.into.now c.loop-parts.into c.initializer.new.into c.args.self.now.source.tokens.now.tokens c.requires.tied c.loop-parts.invariant.keeps c.initializer.ensures.keeps is_initializer c.args.depth Initializers c.loop-parts.parts.items c.loop-parts.invariant.nodes c.loop-parts.next c.loop-parts.invariant.place c.in_ok-found.field-0 c.in_ok-found.ensures.answer c.in-Some.found c.in-Some.end c.in-Some.is c.in-Some-after.following c.in-Some-after.ensures.1 c.in-Some-after.ensures.0, c.in-Some-after.ensures.1)
 
 pub initializers-loop-parts-preserved : goal.initializers-loop-parts-preserved
-initializers-loop-parts-preserved g t c = list_turn (list_map c.args.self.now.lists.now) c.args.self.now.source.typedefs.now (g.R.TypeReader.types c.args.self.now.source.reader.now) c.args.into.now c.loop-parts.into c.initializer.new.into c.args.self.now.source.tokens.now.tokens c.requires.tied c.loop-parts.invariant.keeps c.initializer.ensures.keeps is_initializer c.args.depth Initializers c.loop-parts.parts.items c.loop-parts.invariant.nodes c.loop-parts.next c.loop-parts.invariant.place c.in_ok-found.field-0 c.in_ok-found.ensures.answer c.loop-parts.behind c.loop-parts.invariant.where_behind (listed (readers (known_names g.R.TypeReader.types c.args.self.now.source c.args.into.now) c.args.depth Initializers) (drop c.args.at c.args.self.now.source.tokens.now.tokens)) c.loop-parts.invariant.same c.in-Some.found c.in-Some.end c.in-Some.is c.push.new.self.items c.in_ok-push.ensures.items c.in-Some-after.following c.in-Some-after.ensures.0 c.in-Some-after.ensures.1
+initializers-loop-parts-preserved g t c = list_turn (list_map c.args.self.now.lists.now) c.args.self.now.source.typedefs.now (g.R.TypeReader.types c.args.self.now.source.reader.now) c.args.into.now c.loop-parts.into c.initializer.new.into c.args.self.now.source.tokens.now.tokens c.requires.tied c.loop-parts.invariant.keeps c.initializer.ensures.keeps is_initializer c.args.depth Initializers c.loop-parts.parts.items c.loop-parts.invariant.nodes c.loop-parts.next c.loop-parts.invariant.place c.in_ok-found.field-0 c.in_ok-found.ensures.answer c.loop-parts.behind c.loop-parts.invariant.where_behind (comma_list (readers (known_names g.R.TypeReader.types c.args.self.now.source c.args.into.now) c.args.depth Initializers) (drop c.args.at c.args.self.now.source.tokens.now.tokens)) c.loop-parts.invariant.same c.in-Some.found c.in-Some.end c.in-Some.is c.push.new.self.items c.in_ok-push.ensures.items c.in-Some-after.following c.in-Some-after.ensures.0 c.in-Some-after.ensures.1
 
 pub initializers-returns-in-None : goal.initializers-returns-in-None
 initializers-returns-in-None g t c = record {
   keeps = extends_then _ _ _ c.loop-parts.invariant.keeps c.initializer.ensures.keeps;
   answer =
-      list_stop (list_map c.args.self.now.lists.now) c.args.self.now.source.typedefs.now (g.R.TypeReader.types c.args.self.now.source.reader.now) c.args.into.now c.loop-parts.into c.initializer.new.into c.args.self.now.source.tokens.now.tokens c.requires.tied c.loop-parts.invariant.keeps c.initializer.ensures.keeps is_initializer c.args.depth Initializers c.loop-parts.parts.items c.loop-parts.invariant.nodes c.loop-parts.next c.loop-parts.invariant.place c.in_ok-found.field-0 c.in_ok-found.ensures.answer c.loop-parts.behind c.loop-parts.invariant.where_behind (listed (readers (known_names g.R.TypeReader.types c.args.self.now.source c.args.into.now) c.args.depth Initializers) (drop c.args.at c.args.self.now.source.tokens.now.tokens)) c.loop-parts.invariant.same c.in-Some.found c.in-Some.end c.in-Some.is c.push.new.self.items c.in_ok-push.ensures.items c.in-None.ensures;
+      list_stop (list_map c.args.self.now.lists.now) c.args.self.now.source.typedefs.now (g.R.TypeReader.types c.args.self.now.source.reader.now) c.args.into.now c.loop-parts.into c.initializer.new.into c.args.self.now.source.tokens.now.tokens c.requires.tied c.loop-parts.invariant.keeps c.initializer.ensures.keeps is_initializer c.args.depth Initializers c.loop-parts.parts.items c.loop-parts.invariant.nodes c.loop-parts.next c.loop-parts.invariant.place c.in_ok-found.field-0 c.in_ok-found.ensures.answer c.loop-parts.behind c.loop-parts.invariant.where_behind (comma_list (readers (known_names g.R.TypeReader.types c.args.self.now.source c.args.into.now) c.args.depth Initializers) (drop c.args.at c.args.self.now.source.tokens.now.tokens)) c.loop-parts.invariant.same c.in-Some.found c.in-Some.end c.in-Some.is c.push.new.self.items c.in_ok-push.ensures.items c.in-None.ensures;
 }
 
 pub initializer-line_at-line-requires : goal.initializer-line_at-line-requires

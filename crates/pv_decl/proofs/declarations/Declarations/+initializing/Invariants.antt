@@ -1,7 +1,7 @@
 use Rattle.std.proofs.Common.{◌≡◌, ◌≤◌, ◌+◌, ◌-◌, ◌*◌, All, length, drop}
 use Rattle.pv_tree.specs.Places.{Initializers}
 use Rattle.pv_tree.specs.Tables.{trees_of, is_initializer, Is, Extends}
-use Rattle.pv_decl_forms.specs.Pieces.{row_on, row, after_comma, listed}
+use Rattle.pv_decl_forms.specs.Pieces.{row_on, row, after_comma, comma_list}
 use Rattle.pv_decl_forms.specs.Reader.{readers}
 use Rattle.pv_expr_forms.specs.Sources.{known_names}
 use Rattle.pv_decl.specs.Sources.{AreKnown}
@@ -23,7 +23,7 @@ invariant-initializers-loop-parts g l =
       where_behind : l.behind ≤ length tokens;
       keeps : Extends l.fn.into l.into;
       tied : AreKnown g.R.TypeReader.types l.self l.into;
-      same : row_on (row (after_comma part)) (trees_of l.into.forest l.parts.items) (drop l.behind tokens) (part (drop l.next tokens)) ≡ listed part (drop l.fn.at tokens);
+      same : row_on (row (after_comma part)) (trees_of l.into.forest l.parts.items) (drop l.behind tokens) (part (drop l.next tokens)) ≡ comma_list part (drop l.fn.at tokens);
     }
 
 abbrev pub decreases-initializers-loop-parts : goal.decreases-initializers-loop-parts

@@ -9,9 +9,9 @@ use Rattle.pv_tree.proofs.Kept.{extends_same, extends_then}
 use Rattle.pv_decl_forms.specs.declared.forms.Part.{Part}
 use Rattle.pv_decl_forms.specs.declared.forms.Part.TheVariants as part
 use Rattle.pv_decl_forms.specs.Answers.{Answers}
-use Rattle.pv_decl_forms.specs.Declarators.{grown, longer}
+use Rattle.pv_decl_forms.specs.Declarators.{longest_declarator, longer_declarator}
 use Rattle.pv_decl_forms.specs.Parts.{kind_of_part, place_of_part, word_of_composite, word_of_tag, within}
-use Rattle.pv_decl_forms.specs.Pieces.{Piece, row, listed}
+use Rattle.pv_decl_forms.specs.Pieces.{Piece, row, comma_list}
 use Rattle.pv_decl_forms.specs.Reader.{listed_in_braces, row_in_braces, readers}
 use Rattle.pv_decl_forms.proofs.Answered.{moved, nothing, got}
 use Rattle.pv_decl_forms.proofs.Bracing.{specifier_end, specifier_plain, specifier_tagged, tagged_braced, tagged_alone, no_brace, no_depth, enumerators_in, members_in}
@@ -109,20 +109,20 @@ pub listed-returns-in_default : goal.listed-returns-in_default
 listed-returns-in_default g t c = record {
   keeps = extends_then _ _ _ c.loop-parts.invariant.keeps c.read.ensures.keeps;
   answer =
-      list_done (list_map c.args.self.now.lists.now) c.args.self.now.source.typedefs.now (g.R.TypeReader.types c.args.self.now.source.reader.now) c.args.into.now c.loop-parts.into c.read.new.into c.args.self.now.source.tokens.now.tokens c.requires.tied c.loop-parts.invariant.keeps c.read.ensures.keeps (kind_of_part c.args.part) c.args.depth (place_of_part c.args.part) c.loop-parts.parts.items c.loop-parts.invariant.nodes c.loop-parts.next c.loop-parts.invariant.place c.in_ok-found.field-0 c.in_ok-found.ensures.answer c.loop-parts.behind c.loop-parts.invariant.where_behind (listed (readers (known_names g.R.TypeReader.types c.args.self.now.source c.args.into.now) c.args.depth (place_of_part c.args.part)) (drop c.args.at c.args.self.now.source.tokens.now.tokens)) c.loop-parts.invariant.same c.in_default.is;
+      list_done (list_map c.args.self.now.lists.now) c.args.self.now.source.typedefs.now (g.R.TypeReader.types c.args.self.now.source.reader.now) c.args.into.now c.loop-parts.into c.read.new.into c.args.self.now.source.tokens.now.tokens c.requires.tied c.loop-parts.invariant.keeps c.read.ensures.keeps (kind_of_part c.args.part) c.args.depth (place_of_part c.args.part) c.loop-parts.parts.items c.loop-parts.invariant.nodes c.loop-parts.next c.loop-parts.invariant.place c.in_ok-found.field-0 c.in_ok-found.ensures.answer c.loop-parts.behind c.loop-parts.invariant.where_behind (comma_list (readers (known_names g.R.TypeReader.types c.args.self.now.source c.args.into.now) c.args.depth (place_of_part c.args.part)) (drop c.args.at c.args.self.now.source.tokens.now.tokens)) c.loop-parts.invariant.same c.in_default.is;
 }
 
 pub listed-loop-parts-smaller : goal.listed-loop-parts-smaller
 listed-loop-parts-smaller g t c = omega (arith, past_comma (list_map c.args.self.now.lists.now) c.args.self.now.source.typedefs.now (g.R.TypeReader.types c.args.self.now.source.reader.now) c.args.into.now c.loop-parts.into c.read.new.into c.args.self.now.source.tokens.now.tokens c.requires.tied c.loop-parts.invariant.keeps c.read.ensures.keeps (kind_of_part c.args.part) c.args.depth (place_of_part c.args.part) c.loop-parts.parts.items c.loop-parts.invariant.nodes c.loop-parts.next c.loop-parts.invariant.place c.in_ok-found.field-0 c.in_ok-found.ensures.answer c.in-Some.found c.in-Some.end c.in-Some.is c.in-Some-after.following c.in-Some-after.ensures.1 c.in-Some-after.ensures.0, c.in-Some-after.ensures.1)
 
 pub listed-loop-parts-preserved : goal.listed-loop-parts-preserved
-listed-loop-parts-preserved g t c = list_turn (list_map c.args.self.now.lists.now) c.args.self.now.source.typedefs.now (g.R.TypeReader.types c.args.self.now.source.reader.now) c.args.into.now c.loop-parts.into c.read.new.into c.args.self.now.source.tokens.now.tokens c.requires.tied c.loop-parts.invariant.keeps c.read.ensures.keeps (kind_of_part c.args.part) c.args.depth (place_of_part c.args.part) c.loop-parts.parts.items c.loop-parts.invariant.nodes c.loop-parts.next c.loop-parts.invariant.place c.in_ok-found.field-0 c.in_ok-found.ensures.answer c.loop-parts.behind c.loop-parts.invariant.where_behind (listed (readers (known_names g.R.TypeReader.types c.args.self.now.source c.args.into.now) c.args.depth (place_of_part c.args.part)) (drop c.args.at c.args.self.now.source.tokens.now.tokens)) c.loop-parts.invariant.same c.in-Some.found c.in-Some.end c.in-Some.is c.push.new.self.items c.in_ok-push.ensures.items c.in-Some-after.following c.in-Some-after.ensures.0 c.in-Some-after.ensures.1
+listed-loop-parts-preserved g t c = list_turn (list_map c.args.self.now.lists.now) c.args.self.now.source.typedefs.now (g.R.TypeReader.types c.args.self.now.source.reader.now) c.args.into.now c.loop-parts.into c.read.new.into c.args.self.now.source.tokens.now.tokens c.requires.tied c.loop-parts.invariant.keeps c.read.ensures.keeps (kind_of_part c.args.part) c.args.depth (place_of_part c.args.part) c.loop-parts.parts.items c.loop-parts.invariant.nodes c.loop-parts.next c.loop-parts.invariant.place c.in_ok-found.field-0 c.in_ok-found.ensures.answer c.loop-parts.behind c.loop-parts.invariant.where_behind (comma_list (readers (known_names g.R.TypeReader.types c.args.self.now.source c.args.into.now) c.args.depth (place_of_part c.args.part)) (drop c.args.at c.args.self.now.source.tokens.now.tokens)) c.loop-parts.invariant.same c.in-Some.found c.in-Some.end c.in-Some.is c.push.new.self.items c.in_ok-push.ensures.items c.in-Some-after.following c.in-Some-after.ensures.0 c.in-Some-after.ensures.1
 
 pub listed-returns-in-None : goal.listed-returns-in-None
 listed-returns-in-None g t c = record {
   keeps = extends_then _ _ _ c.loop-parts.invariant.keeps c.read.ensures.keeps;
   answer =
-      list_stop (list_map c.args.self.now.lists.now) c.args.self.now.source.typedefs.now (g.R.TypeReader.types c.args.self.now.source.reader.now) c.args.into.now c.loop-parts.into c.read.new.into c.args.self.now.source.tokens.now.tokens c.requires.tied c.loop-parts.invariant.keeps c.read.ensures.keeps (kind_of_part c.args.part) c.args.depth (place_of_part c.args.part) c.loop-parts.parts.items c.loop-parts.invariant.nodes c.loop-parts.next c.loop-parts.invariant.place c.in_ok-found.field-0 c.in_ok-found.ensures.answer c.loop-parts.behind c.loop-parts.invariant.where_behind (listed (readers (known_names g.R.TypeReader.types c.args.self.now.source c.args.into.now) c.args.depth (place_of_part c.args.part)) (drop c.args.at c.args.self.now.source.tokens.now.tokens)) c.loop-parts.invariant.same c.in-Some.found c.in-Some.end c.in-Some.is c.push.new.self.items c.in_ok-push.ensures.items c.in-None.ensures;
+      list_stop (list_map c.args.self.now.lists.now) c.args.self.now.source.typedefs.now (g.R.TypeReader.types c.args.self.now.source.reader.now) c.args.into.now c.loop-parts.into c.read.new.into c.args.self.now.source.tokens.now.tokens c.requires.tied c.loop-parts.invariant.keeps c.read.ensures.keeps (kind_of_part c.args.part) c.args.depth (place_of_part c.args.part) c.loop-parts.parts.items c.loop-parts.invariant.nodes c.loop-parts.next c.loop-parts.invariant.place c.in_ok-found.field-0 c.in_ok-found.ensures.answer c.loop-parts.behind c.loop-parts.invariant.where_behind (comma_list (readers (known_names g.R.TypeReader.types c.args.self.now.source c.args.into.now) c.args.depth (place_of_part c.args.part)) (drop c.args.at c.args.self.now.source.tokens.now.tokens)) c.loop-parts.invariant.same c.in-Some.found c.in-Some.end c.in-Some.is c.push.new.self.items c.in_ok-push.ensures.items c.in-None.ensures;
 }
 
 -- ---- specifiers
@@ -280,7 +280,7 @@ grow-loop-longer-smaller g t c =
 
 pub grow-loop-longer-preserved : goal.grow-loop-longer-preserved
 grow-loop-longer-preserved g t c =
-    let a = at_start c.args.self.now.source.typedefs.now (g.R.TypeReader.types c.args.self.now.source.reader.now) c.args.into.now c.loop-longer.into c.extend.new.into c.args.self.now.source.tokens.now.tokens c.requires.ready.tied.tied c.loop-longer.invariant.keeps is_declarator c.in_ok-longer.field-0 (λ n. longer (readers n c.args.below) c.args.below c.args.line (tree_at c.loop-longer.into.forest c.loop-longer.left) (drop c.loop-longer.next c.args.self.now.source.tokens.now.tokens)) c.in_ok-longer.ensures.answer in
+    let a = at_start c.args.self.now.source.typedefs.now (g.R.TypeReader.types c.args.self.now.source.reader.now) c.args.into.now c.loop-longer.into c.extend.new.into c.args.self.now.source.tokens.now.tokens c.requires.ready.tied.tied c.loop-longer.invariant.keeps is_declarator c.in_ok-longer.field-0 (λ n. longer_declarator (readers n c.args.below) c.args.below c.args.line (tree_at c.loop-longer.into.forest c.loop-longer.left) (drop c.loop-longer.next c.args.self.now.source.tokens.now.tokens)) c.in_ok-longer.ensures.answer in
     let h = got c.extend.new.into is_declarator c.args.self.now.source.tokens.now.tokens c.in_ok-longer.field-0 _ c.in-Some.longer c.in-Some.end a c.in-Some.is in
     let e = grew (readers (known_names g.R.TypeReader.types c.args.self.now.source c.args.into.now) c.args.below) c.args.below c.args.line c.loop-longer.into c.extend.new.into c.args.self.now.source.tokens.now.tokens c.loop-longer.left c.loop-longer.next c.in_ok-longer.field-0 a c.in-Some.longer c.in-Some.end c.in-Some.is in
     let keeps = extends_then c.args.into.now c.loop-longer.into c.extend.new.into c.loop-longer.invariant.keeps c.extend.ensures.keeps in
@@ -296,9 +296,9 @@ pub grow-returns-in-None : goal.grow-returns-in-None
 grow-returns-in-None g t c = record {
   keeps = extends_then _ _ _ c.loop-longer.invariant.keeps c.extend.ensures.keeps;
   answer =
-      let a = at_start c.args.self.now.source.typedefs.now (g.R.TypeReader.types c.args.self.now.source.reader.now) c.args.into.now c.loop-longer.into c.extend.new.into c.args.self.now.source.tokens.now.tokens c.requires.ready.tied.tied c.loop-longer.invariant.keeps is_declarator c.in_ok-longer.field-0 (λ n. longer (readers n c.args.below) c.args.below c.args.line (tree_at c.loop-longer.into.forest c.loop-longer.left) (drop c.loop-longer.next c.args.self.now.source.tokens.now.tokens)) c.in_ok-longer.ensures.answer in
+      let a = at_start c.args.self.now.source.typedefs.now (g.R.TypeReader.types c.args.self.now.source.reader.now) c.args.into.now c.loop-longer.into c.extend.new.into c.args.self.now.source.tokens.now.tokens c.requires.ready.tied.tied c.loop-longer.invariant.keeps is_declarator c.in_ok-longer.field-0 (λ n. longer_declarator (readers n c.args.below) c.args.below c.args.line (tree_at c.loop-longer.into.forest c.loop-longer.left) (drop c.loop-longer.next c.args.self.now.source.tokens.now.tokens)) c.in_ok-longer.ensures.answer in
       grew_out (readers (known_names g.R.TypeReader.types c.args.self.now.source c.args.into.now) c.args.below) c.args.below c.args.line c.loop-longer.into c.extend.new.into c.args.self.now.source.tokens.now.tokens c.loop-longer.left c.loop-longer.next c.in_ok-longer.field-0 a
-      (grown (readers (known_names g.R.TypeReader.types c.args.self.now.source c.args.into.now) c.args.below) c.args.below c.args.line (tree_at c.args.into.now.forest c.args.first) (drop c.args.at c.args.self.now.source.tokens.now.tokens))
+      (longest_declarator (readers (known_names g.R.TypeReader.types c.args.self.now.source c.args.into.now) c.args.below) c.args.below c.args.line (tree_at c.args.into.now.forest c.args.first) (drop c.args.at c.args.self.now.source.tokens.now.tokens))
       c.in-None.is c.extend.ensures.keeps c.loop-longer.invariant.node c.loop-longer.invariant.place c.loop-longer.invariant.same;
 }
 

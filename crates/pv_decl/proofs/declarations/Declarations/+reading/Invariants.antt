@@ -4,9 +4,9 @@ use Rattle.pv_tree.specs.Syntax.{NoTrees}
 use Rattle.pv_tree.specs.Tables.{tree_at, declarator_at, trees_of, is_declarator, Is, Extends}
 use Rattle.pv_decl_forms.specs.declared.forms.Part.{Part}
 use Rattle.pv_decl_forms.specs.declared.forms.Part.TheVariants as part
-use Rattle.pv_decl_forms.specs.Declarators.{grown}
+use Rattle.pv_decl_forms.specs.Declarators.{longest_declarator}
 use Rattle.pv_decl_forms.specs.Parts.{kind_of_part, place_of_part}
-use Rattle.pv_decl_forms.specs.Pieces.{row_on, row, after_comma, listed}
+use Rattle.pv_decl_forms.specs.Pieces.{row_on, row, after_comma, comma_list}
 use Rattle.pv_decl_forms.specs.Reader.{readers}
 use Rattle.pv_expr_forms.specs.Sources.{known_names}
 use Rattle.pv_decl.specs.Sources.{AreKnown}
@@ -84,7 +84,7 @@ invariant-listed-loop-parts g l =
       where_behind : l.behind ≤ length tokens;
       keeps : Extends l.fn.into l.into;
       tied : AreKnown g.R.TypeReader.types l.self l.into;
-      same : row_on (row (after_comma part)) (trees_of l.into.forest l.parts.items) (drop l.behind tokens) (part (drop l.next tokens)) ≡ listed part (drop l.fn.at tokens);
+      same : row_on (row (after_comma part)) (trees_of l.into.forest l.parts.items) (drop l.behind tokens) (part (drop l.next tokens)) ≡ comma_list part (drop l.fn.at tokens);
     }
 
 abbrev pub decreases-listed-loop-parts : goal.decreases-listed-loop-parts
@@ -99,7 +99,7 @@ invariant-grow-loop-longer g l =
       place : l.next ≤ length tokens;
       keeps : Extends l.fn.into l.into;
       tied : AreKnown g.R.TypeReader.types l.self l.into;
-      same : grown below l.below l.line (tree_at l.into.forest l.left) (drop l.next tokens) ≡ grown below l.below l.line (tree_at l.fn.into.forest l.fn.first) (drop l.fn.at tokens);
+      same : longest_declarator below l.below l.line (tree_at l.into.forest l.left) (drop l.next tokens) ≡ longest_declarator below l.below l.line (tree_at l.fn.into.forest l.fn.first) (drop l.fn.at tokens);
     }
 
 abbrev pub decreases-grow-loop-longer : goal.decreases-grow-loop-longer

@@ -4,7 +4,7 @@ use Rattle.pv_tree.specs.Tables.{tree_at, is_declarator}
 use Rattle.pv_tree.proofs.Kept.{extends_then}
 use Rattle.pv_expr_forms.specs.Known.{names_in}
 use Rattle.pv_decl_forms.specs.Pieces.{Piece}
-use Rattle.pv_decl_forms.specs.Reader.{initialized, readers}
+use Rattle.pv_decl_forms.specs.Reader.{declarator_and_value, readers}
 use Rattle.pv_decl_forms.proofs.Answered.{moved, nothing, got}
 use Rattle.pv_decl_forms.proofs.Outer.{init_none, init_some, moved_at_start}
 use Rattle.pv_decl.specs.Filled.{list_map}
@@ -30,10 +30,10 @@ returns-in-Some g c = record {
       let names = names_in c.args.self.now.source.typedefs.now types c.args.into.now tokens in
       let v = c.read.new.into in
       moved _ _ _ _ _ _
-      (ap (λ (l : ℕ). let x : Piece = Some (initialized (readers names c.args.depth) l (tree_at v.forest c.in-Some.declarator) (drop c.in-Some.end tokens)) in x) c.line_at-line.ensures
+      (ap (λ (l : ℕ). let x : Piece = Some (declarator_and_value (readers names c.args.depth) l (tree_at v.forest c.in-Some.declarator) (drop c.in-Some.end tokens)) in x) c.line_at-line.ensures
       ∙ init_some names c.args.depth (drop c.args.at tokens) v tokens c.in_ok-declarator.field-0 c.in_ok-declarator.ensures.answer c.in-Some.declarator c.in-Some.end c.in-Some.is)
       (moved_at_start c.args.self.now.source.typedefs.now types c.args.into.now v c.initialized.new.into tokens c.requires.tied.tied c.read.ensures.keeps _ c.initialized.result
-      (λ n. Some (initialized (readers n c.args.depth) c.line_at-line.result (tree_at v.forest c.in-Some.declarator) (drop c.in-Some.end tokens))) c.initialized.ensures.answer);
+      (λ n. Some (declarator_and_value (readers n c.args.depth) c.line_at-line.result (tree_at v.forest c.in-Some.declarator) (drop c.in-Some.end tokens))) c.initialized.ensures.answer);
 }
 
 pub line_at-line-requires : goal.line_at-line-requires

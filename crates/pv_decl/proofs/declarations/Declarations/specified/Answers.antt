@@ -7,7 +7,7 @@ use Rattle.pv_tree.specs.Tables.{tree_at, trees_of, is_declaration, is_declarato
 use Rattle.pv_tree.proofs.Kept.{extends_then}
 use Rattle.pv_expr_forms.specs.Known.{names_in}
 use Rattle.pv_decl_forms.specs.Pieces.{Piece, row, after_comma}
-use Rattle.pv_decl_forms.specs.Reader.{ended, initialized, readers}
+use Rattle.pv_decl_forms.specs.Reader.{semicolon_behind, declarator_and_value, readers}
 use Rattle.pv_decl_forms.proofs.Growing.{all_as}
 use Rattle.pv_decl_forms.proofs.Answered.{moved, nothing, got}
 use Rattle.pv_decl_forms.proofs.Loops.{at_start, all_kept}
@@ -78,13 +78,13 @@ returns g c = record {
       let no = no_semicolon tokens (drop c.args.at tokens) c.after.result c.after.ensures (sym c.is_some.ensures ∙ c.if-is_some.false) in
       let on = extends_then u v w c.read.ensures.keeps c.initialized.ensures.keeps in
       let a = at_start typedefs types u v w tokens c.requires.ready.tied.tied c.read.ensures.keeps is_declaration c.in_ok-first.field-0
-      (λ n. Some (initialized (readers n c.args.below) c.line_at-here.result (tree_at v.forest c.in-Some.declarator) (drop c.in-Some.end tokens))) c.in_ok-first.ensures.answer in
+      (λ n. Some (declarator_and_value (readers n c.args.below) c.line_at-here.result (tree_at v.forest c.in-Some.declarator) (drop c.in-Some.end tokens))) c.in_ok-first.ensures.answer in
       let one = (got w is_declaration tokens c.in_ok-first.field-0 _ c.in-Some-2.first c.in-Some-2.behind a c.in-Some-2.is).0
-      ∙ ap (λ (l : ℕ). let y : Piece = Some (initialized r l (tree_at v.forest c.in-Some.declarator) (drop c.in-Some.end tokens)) in y) c.line_at-here.ensures in
+      ∙ ap (λ (l : ℕ). let y : Piece = Some (declarator_and_value r l (tree_at v.forest c.in-Some.declarator) (drop c.in-Some.end tokens)) in y) c.line_at-here.ensures in
       let all = are_at_start typedefs types u w x tokens c.requires.ready.tied.tied on is_declaration c.in_ok-declared.declared.items c.in_ok-declared.last
       (λ n. row (after_comma (readers n c.args.below InitDeclarators)) (Then NoTrees (tree_at w.forest c.in-Some-2.first)) (drop c.in-Some-2.behind tokens)) c.in_ok-declared.ensures.answer in
       moved _ _ _ _ _ _
-      (ap (λ (ns : List NodeId). ended (Declaration c.args.line (trees_of x.forest c.args.specs.now) (trees_of x.forest ns)) (drop c.in_ok-declared.last tokens)) c.deref.ensures.value
+      (ap (λ (ns : List NodeId). semicolon_behind (Declaration c.args.line (trees_of x.forest c.args.specs.now) (trees_of x.forest ns)) (drop c.in_ok-declared.last tokens)) c.deref.ensures.value
       ∙ specified_list u v tokens r c.args.line c.args.at c.args.specs.now c.requires.specs c.read.ensures.keeps no c.in_ok-declarator.field-0 c.in_ok-declarator.ensures.answer
       c.in-Some.declarator c.in-Some.end c.in-Some.is (sym c.opens_block.ensures ∙ c.if-opens_block.false) w c.in-Some-2.first c.in-Some-2.behind one
       x (extends_then u w x on c.declared.ensures.keeps) c.in_ok-declared.declared.items c.in_ok-declared.last all) c.declaration_of-2.ensures.ok;

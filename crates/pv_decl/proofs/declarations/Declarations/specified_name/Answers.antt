@@ -8,8 +8,8 @@ use Rattle.pv_tree.specs.Syntax.{TypeName}
 use Rattle.pv_tree.specs.Tables.{trees_of, is_declarator, is_specifier}
 use Rattle.pv_tree.proofs.Kept.{extends_then}
 use Rattle.pv_expr_forms.specs.Known.{names_in}
-use Rattle.pv_decl_forms.specs.Pieces.{optional}
-use Rattle.pv_decl_forms.specs.Answers.{seen}
+use Rattle.pv_decl_forms.specs.Pieces.{part_if_any}
+use Rattle.pv_decl_forms.specs.Answers.{piece_from}
 use Rattle.pv_decl_forms.specs.Reader.{made_of, readers}
 use Rattle.pv_decl_forms.proofs.Answered.{moved, nothing}
 use Rattle.pv_decl_forms.proofs.Loops.{at_start, all_kept}
@@ -46,8 +46,8 @@ returns g c = record {
       let b = at_start c.args.self.now.source.typedefs.now types u v w tokens c.requires.tied.tied c.row.ensures.keeps is_declarator answer
       (λ n. readers n c.args.depth AbstractDeclarators (drop c.in_ok-specs.next tokens)) c.in_ok-declarator.ensures.answer in
       moved _ _ _ _ _ _
-      (ap (λ (l : ℕ). made_of (TypeName l) (trees_of w.forest c.deref.result.now) (optional (drop c.in_ok-specs.next tokens) (seen w.forest tokens answer))) c.line_at-line.ensures
-      ∙ ap (λ (ns : List NodeId). made_of (TypeName (line_here (drop c.args.at tokens))) (trees_of w.forest ns) (optional (drop c.in_ok-specs.next tokens) (seen w.forest tokens answer))) c.deref.ensures.value
+      (ap (λ (l : ℕ). made_of (TypeName l) (trees_of w.forest c.deref.result.now) (part_if_any (drop c.in_ok-specs.next tokens) (piece_from w.forest tokens answer))) c.line_at-line.ensures
+      ∙ ap (λ (ns : List NodeId). made_of (TypeName (line_here (drop c.args.at tokens))) (trees_of w.forest ns) (part_if_any (drop c.in_ok-specs.next tokens) (piece_from w.forest tokens answer))) c.deref.ensures.value
       ∙ type_name_some_by names c.args.depth (drop c.args.at tokens) v tokens c.in_ok-specs.specs.items c.in_ok-specs.next c.in_ok-specs.ensures.answer (same_count (vec_len c.in_ok-specs.specs) (length c.in_ok-specs.specs.items) false (omega (arith, c.in_ok-specs.specs.ok.0)) (sym c.is_empty.ensures ∙ c.if-is_empty.false)) w c.read.ensures.keeps answer b)
       c.type_name_of.ensures.ok;
 }

@@ -4,7 +4,7 @@ use Rattle.pv_world.specs.Worths.{truth_int}
 use Rattle.pv_eval.specs.Operations.{Tests}
 use Rattle.pv_eval.specs.Moments.{Moment, sides_of}
 use Rattle.pv_eval.specs.Plainly.{found_worth}
-use Rattle.pv_eval.specs.AtOnce.{TestedNext, CutNext, ticked}
+use Rattle.pv_eval.specs.AtOnce.{TestedNext, CutNext, with_turn_taken}
 use Rattle.pv_eval.proofs.PlainNumbers.{act_gives}
 use Rattle.pv_eval.proofs.PlainStores.{turns_plain, performs_plain}
 use Rattle.pv_eval.proofs.Wholes.{evaluated, cut_off}
@@ -23,7 +23,7 @@ returns-clause-some c =
     let new : Moment = record { world = m.world; printed = m.printed.items; total = m.total; waiting = m.waiting.items; taken = m.taken + 1 + k; sides = sides_of m.sides } in
     subst (λ (o : Moment). TestedNext u n t o new) c.self.view_is (record {
       worth = v;
-      has = evaluated u n k v (ticked was) new (performs_plain u m.world m.world x v refl c.in_ok-v.ensures) (turns_plain x k c.in_ok-turns.ensures) refl;
+      has = evaluated u n k v (with_turn_taken was) new (performs_plain u m.world m.world x v refl c.in_ok-v.ensures) (turns_plain x k c.in_ok-turns.ensures) refl;
       tests = λ b line out es. act_gives m.world (out ++ m.printed.items) (es ++ m.waiting.items) (m.taken + 1 + k) b line (Tests v) (truth_int t) (c.in_ok-t.ensures b);
     })
 
@@ -37,4 +37,4 @@ returns-clause-cut c =
     let v = found_worth c.in_ok-v.v in
     let was : Moment = record { world = m.world; printed = m.printed.items; total = m.total; waiting = m.waiting.items; taken = m.taken; sides = sides_of m.sides } in
     let new : Moment = record { world = m.world; printed = m.printed.items; total = m.total; waiting = m.waiting.items; taken = m.taken + 1 + k; sides = sides_of m.sides } in
-    subst (λ (o : Moment). CutNext u n o new) c.self.view_is (cut_off u n k v (ticked was) new (performs_plain u m.world m.world x v refl c.in_ok-v.ensures) (turns_plain x k c.in_ok-turns.ensures) refl)
+    subst (λ (o : Moment). CutNext u n o new) c.self.view_is (cut_off u n k v (with_turn_taken was) new (performs_plain u m.world m.world x v refl c.in_ok-v.ensures) (turns_plain x k c.in_ok-turns.ensures) refl)

@@ -10,7 +10,7 @@ use Rattle.pv_eval.specs.declared.frames.Frame.{Frame}
 use Rattle.pv_eval.specs.declared.frames.Now.{Now}
 use Rattle.pv_eval.specs.declared.frames.Now.TheVariants.{Due, Asked}
 use Rattle.pv_eval.specs.States.{then_do}
-use Rattle.pv_eval.specs.Sequenced.{done}
+use Rattle.pv_eval.specs.Sequenced.{node_value}
 use Rattle.pv_eval.specs.Evaluation.{ev}
 use Rattle.pv_eval.specs.Moments.{Moment, state_of}
 use Rattle.pv_eval.specs.Ahead.{ahead, NowFits}
@@ -64,8 +64,8 @@ returns-clause-goes c = λ t b out es hs hl call room.
     let is = c.in-Ok.ensures.opens ∙ ap (λ (rs : List Access). with_reads rs (top js) ∷ below js) c.as_slice.ensures.value in
     let taken = ap (λ (m : Moment). m.taken) c.take_up_to.ensures in
     goes_call b call u old.frames js new.opens old.place n f got line all s s' at fits.1 is
-    (subst (λ (k : ℕ). ev b call x (top js).foes s ≡ then_do (call f (map worth_of got.items) k s') (done (sequence_point (has_read (top js).foes all)))) (sym (c.line_of.ensures.expression fits.0))
-    (subst (λ (m : Moment). ev b call x (top js).foes s ≡ then_do (call f (map worth_of got.items) (line_of x) (state_of m out es)) (done (sequence_point (has_read (top js).foes all)))) (sym c.take_up_to.ensures)
+    (subst (λ (k : ℕ). ev b call x (top js).foes s ≡ then_do (call f (map worth_of got.items) k s') (node_value (sequence_point (has_read (top js).foes all)))) (sym (c.line_of.ensures.expression fits.0))
+    (subst (λ (m : Moment). ev b call x (top js).foes s ≡ then_do (call f (map worth_of got.items) (line_of x) (state_of m out es)) (node_value (sequence_point (has_read (top js).foes all)))) (sym c.take_up_to.ensures)
     (c.in-Some.ensures.some b out es hs hl call (top js).foes (c.only_reads.ensures c.if-not-only_reads.false) (omega (arith, taken, room)))))
     ∙ ap (λ (fs : List Frame). ahead b call u fs new.opens (Asked f got line) s') (sym c.has_asked.ensures.frames)
     ∙ ap (λ (p : Now). ahead b call u new.frames new.opens p s') (sym c.in-Ok.ensures.place)

@@ -4,7 +4,7 @@ use Rattle.pv_inst.specs.declared.values.Instance.{Instance}
 use Rattle.pv_prov.specs.declared.names.Prov.TheVariants.{Pair}
 use Rattle.pv_prov.specs.Names.{stands}
 use Rattle.pv_inst.specs.Table.{Table}
-use Rattle.pv_inst.specs.Use.{judged}
+use Rattle.pv_inst.specs.Use.{test_answer}
 use Rattle.pv_inst.proofs.Uses.{judged_can}
 use Rattle.pv_inst.proofs.instances.Instances.narrow.Goals as goal
 
@@ -16,10 +16,10 @@ keep-requires-clause-one c =
     let zap_is : c.self-in-Pair.inside.zap ≡ T.zap = ap (λ (U : Table). U.zap) c.self-in-Pair.view_is in
     let s_is : c.stands-stands-in-Pair.result ≡ stands T.pairs (Pair k) =
     c.stands-stands-in-Pair.ensures ∙ ap (λ (U : Table). stands U.pairs (Pair k)) c.self-in-Pair.view_is in
-    let found : judged T.zap T.instances (stands T.pairs (Pair k)) c.if-is_some.pair c.args.test ≡ Ok c.in_ok-tried-in-Pair.tried =
-    sym (ap (λ (z : Bool). judged z T.instances (stands T.pairs (Pair k)) c.if-is_some.pair c.args.test) zap_is)
-    ∙ sym (ap (λ (xs : List Instance). judged c.self-in-Pair.inside.zap xs (stands T.pairs (Pair k)) c.if-is_some.pair c.args.test) xs_is)
-    ∙ sym (ap (λ (s : Stands). judged c.self-in-Pair.inside.zap c.deref-in-Pair.result.now s c.if-is_some.pair c.args.test) s_is)
+    let found : test_answer T.zap T.instances (stands T.pairs (Pair k)) c.if-is_some.pair c.args.test ≡ Ok c.in_ok-tried-in-Pair.tried =
+    sym (ap (λ (z : Bool). test_answer z T.instances (stands T.pairs (Pair k)) c.if-is_some.pair c.args.test) zap_is)
+    ∙ sym (ap (λ (xs : List Instance). test_answer c.self-in-Pair.inside.zap xs (stands T.pairs (Pair k)) c.if-is_some.pair c.args.test) xs_is)
+    ∙ sym (ap (λ (s : Stands). test_answer c.self-in-Pair.inside.zap c.deref-in-Pair.result.now s c.if-is_some.pair c.args.test) s_is)
     ∙ sym c.judge-in-Pair.ensures ∙ c.in_ok-tried-in-Pair.was in
     (judged_can T k c.if-is_some.pair c.args.test c.in_ok-tried-in-Pair.tried found).0
 
@@ -31,10 +31,10 @@ keep-requires-clause-low_stands c =
     let zap_is : c.self-in-Pair.inside.zap ≡ T.zap = ap (λ (U : Table). U.zap) c.self-in-Pair.view_is in
     let s_is : c.stands-stands-in-Pair.result ≡ stands T.pairs (Pair k) =
     c.stands-stands-in-Pair.ensures ∙ ap (λ (U : Table). stands U.pairs (Pair k)) c.self-in-Pair.view_is in
-    let found : judged T.zap T.instances (stands T.pairs (Pair k)) c.if-is_some.pair c.args.test ≡ Ok c.in_ok-tried-in-Pair.tried =
-    sym (ap (λ (z : Bool). judged z T.instances (stands T.pairs (Pair k)) c.if-is_some.pair c.args.test) zap_is)
-    ∙ sym (ap (λ (xs : List Instance). judged c.self-in-Pair.inside.zap xs (stands T.pairs (Pair k)) c.if-is_some.pair c.args.test) xs_is)
-    ∙ sym (ap (λ (s : Stands). judged c.self-in-Pair.inside.zap c.deref-in-Pair.result.now s c.if-is_some.pair c.args.test) s_is)
+    let found : test_answer T.zap T.instances (stands T.pairs (Pair k)) c.if-is_some.pair c.args.test ≡ Ok c.in_ok-tried-in-Pair.tried =
+    sym (ap (λ (z : Bool). test_answer z T.instances (stands T.pairs (Pair k)) c.if-is_some.pair c.args.test) zap_is)
+    ∙ sym (ap (λ (xs : List Instance). test_answer c.self-in-Pair.inside.zap xs (stands T.pairs (Pair k)) c.if-is_some.pair c.args.test) xs_is)
+    ∙ sym (ap (λ (s : Stands). test_answer c.self-in-Pair.inside.zap c.deref-in-Pair.result.now s c.if-is_some.pair c.args.test) s_is)
     ∙ sym c.judge-in-Pair.ensures ∙ c.in_ok-tried-in-Pair.was in
     (judged_can T k c.if-is_some.pair c.args.test c.in_ok-tried-in-Pair.tried found).1
 
@@ -46,9 +46,9 @@ keep-requires-clause-high_stands c =
     let zap_is : c.self-in-Pair.inside.zap ≡ T.zap = ap (λ (U : Table). U.zap) c.self-in-Pair.view_is in
     let s_is : c.stands-stands-in-Pair.result ≡ stands T.pairs (Pair k) =
     c.stands-stands-in-Pair.ensures ∙ ap (λ (U : Table). stands U.pairs (Pair k)) c.self-in-Pair.view_is in
-    let found : judged T.zap T.instances (stands T.pairs (Pair k)) c.if-is_some.pair c.args.test ≡ Ok c.in_ok-tried-in-Pair.tried =
-    sym (ap (λ (z : Bool). judged z T.instances (stands T.pairs (Pair k)) c.if-is_some.pair c.args.test) zap_is)
-    ∙ sym (ap (λ (xs : List Instance). judged c.self-in-Pair.inside.zap xs (stands T.pairs (Pair k)) c.if-is_some.pair c.args.test) xs_is)
-    ∙ sym (ap (λ (s : Stands). judged c.self-in-Pair.inside.zap c.deref-in-Pair.result.now s c.if-is_some.pair c.args.test) s_is)
+    let found : test_answer T.zap T.instances (stands T.pairs (Pair k)) c.if-is_some.pair c.args.test ≡ Ok c.in_ok-tried-in-Pair.tried =
+    sym (ap (λ (z : Bool). test_answer z T.instances (stands T.pairs (Pair k)) c.if-is_some.pair c.args.test) zap_is)
+    ∙ sym (ap (λ (xs : List Instance). test_answer c.self-in-Pair.inside.zap xs (stands T.pairs (Pair k)) c.if-is_some.pair c.args.test) xs_is)
+    ∙ sym (ap (λ (s : Stands). test_answer c.self-in-Pair.inside.zap c.deref-in-Pair.result.now s c.if-is_some.pair c.args.test) s_is)
     ∙ sym c.judge-in-Pair.ensures ∙ c.in_ok-tried-in-Pair.was in
     (judged_can T k c.if-is_some.pair c.args.test c.in_ok-tried-in-Pair.tried found).2

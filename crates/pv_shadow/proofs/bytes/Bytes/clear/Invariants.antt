@@ -1,11 +1,11 @@
 use Rattle.std.proofs.Common.{◌≡◌, ◌+◌, ◌-◌, ◌≤◌}
-use Rattle.pv_shadow.specs.Bytes.{cleared}
+use Rattle.pv_shadow.specs.Bytes.{without_bytes}
 use Rattle.pv_shadow.proofs.bytes.Bytes.clear.Given as goal
 
 -- what is left to clear leaves what the whole leaves
 abbrev pub invariant-loop-i : goal.invariant-loop-i
 invariant-loop-i l = record {
-  rest : cleared l.self (l.base + l.i) (l.size - l.i) ≡ cleared l.initial.self l.base l.size;
+  rest : without_bytes l.self (l.base + l.i) (l.size - l.i) ≡ without_bytes l.initial.self l.base l.size;
   few : l.i ≤ l.size;
 }
 

@@ -1,5 +1,5 @@
 use Rattle.std.proofs.Common.{◌+◌, ◌%◌, ◌<◌, ◌≤◌, get_or, Some, sym, ap, subst, ◌∙◌, arith}
-use Rattle.pv_shadow.specs.Packed.{unpacked, absent, cell_byte, number_byte, first_of, four_of}
+use Rattle.pv_shadow.specs.Packed.{byte_packed, absent, cell_byte, number_byte, first_of, four_of}
 use Rattle.pv_shadow.proofs.Cells.{seen_slot, at_cell, at_loose, loose_number, loose_single}
 use Rattle.pv_shadow.proofs.page.Page.at.Goals as goal
 
@@ -33,5 +33,5 @@ returns-else-four-ge48 c =
     let low_inside : (get_or xs (first_of i) absent).kind < 64 = subst (λ ys. (get_or ys (first_of i) absent).kind < 64) c.deref.ensures low in
     let single : (get_or c.deref-2.result.now (four_of i) absent).kind < 48 = omega arith in
     let single_inside : (get_or xs (four_of i) absent).kind < 48 = subst (λ ys. (get_or ys (four_of i) absent).kind < 48) c.deref-2.ensures single in
-    rw (← c.self.view_is) (c.unpack.ensures ∙ ap (λ ys. unpacked (get_or ys i absent)) c.deref-else-four-ge48.ensures
+    rw (← c.self.view_is) (c.unpack.ensures ∙ ap (λ ys. byte_packed (get_or ys i absent)) c.deref-else-four-ge48.ensures
     ∙ sym (seen_slot xs i c.requires ∙ at_loose xs i low_inside ∙ loose_single xs i single_inside))

@@ -1,7 +1,7 @@
 use Rattle.std.proofs.Common.{◌≡◌, ℕ, ◌+◌, ◌-◌, ◌%◌, ◌<◌, ◌≤◌, List, get_or, IsSomeAnd, sym, subst, arith}
 use Rattle.pv_shadow.specs.declared.byte.Byte.{Byte}
 use Rattle.pv_shadow.specs.declared.packed.Packed.{Packed}
-use Rattle.pv_shadow.specs.Packed.{absent, pair_if, seen}
+use Rattle.pv_shadow.specs.Packed.{absent, pair_if, page_bytes}
 use Rattle.pv_shadow.specs.Pages.{slot_at}
 use Rattle.pv_shadow.proofs.Cells.{marks_seen}
 use Rattle.pv_shadow.proofs.page.Page.eight_at.Goals as goal
@@ -12,5 +12,5 @@ returns-then-head-ge64-clause-marks c =
     let i = c.args.i in
     let high : 64 ≤ (get_or c.deref.result.now i absent).kind = omega arith in
     let high_inside : 64 ≤ (get_or xs i absent).kind = subst (λ ys. 64 ≤ (get_or ys i absent).kind) c.deref.ensures high in
-    rw (← c.self.view_is) (subst (λ (ys : List Packed). (k : ℕ) → k < 8 → IsSomeAnd (slot_at (seen xs) (i + k)) (λ (b : Byte). b.mark ≡ pair_if (((get_or ys i absent).kind - 64) % 2) (get_or ys i absent).mark k)) (sym c.deref.ensures)
+    rw (← c.self.view_is) (subst (λ (ys : List Packed). (k : ℕ) → k < 8 → IsSomeAnd (slot_at (page_bytes xs) (i + k)) (λ (b : Byte). b.mark ≡ pair_if (((get_or ys i absent).kind - 64) % 2) (get_or ys i absent).mark k)) (sym c.deref.ensures)
     (marks_seen xs i c.requires.first c.requires.within high_inside))

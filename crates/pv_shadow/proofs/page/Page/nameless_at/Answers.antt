@@ -1,6 +1,6 @@
 use Rattle.std.proofs.Common.{◌%◌, ◌<◌, ◌≤◌, get_or, refl, sym, ap, subst, ◌∙◌, Some, IfSome, IsSomeAnd, Option, arith}
 use Rattle.pv_shadow.specs.declared.byte.Byte.{Byte}
-use Rattle.pv_shadow.specs.Packed.{unpacked, absent, digit_at, first_of, four_of, IsNameless}
+use Rattle.pv_shadow.specs.Packed.{byte_packed, absent, digit_at, first_of, four_of, IsNameless}
 use Rattle.pv_shadow.proofs.Cells.{seen_slot, at_loose, loose_number, loose_single}
 use Rattle.pv_shadow.proofs.page.Page.nameless_at.Goals as goal
 
@@ -24,4 +24,4 @@ returns-else-four-ge48 c =
     let single : (get_or c.deref-2.result.now (four_of i) absent).kind < 48 = omega arith in
     let single_inside : (get_or xs (four_of i) absent).kind < 48 = subst (λ ys. (get_or ys (four_of i) absent).kind < 48) c.deref-2.ensures single in
     rw (← c.self.view_is) (subst (λ (o : Option Byte). IfSome c.nameless_value.result (λ v. IsSomeAnd o (IsNameless v)))
-    (ap (λ ys. unpacked (get_or ys i absent)) c.deref-else-four-ge48.ensures ∙ sym (seen_slot xs i c.requires ∙ at_loose xs i low_inside ∙ loose_single xs i single_inside)) c.nameless_value.ensures)
+    (ap (λ ys. byte_packed (get_or ys i absent)) c.deref-else-four-ge48.ensures ∙ sym (seen_slot xs i c.requires ∙ at_loose xs i low_inside ∙ loose_single xs i single_inside)) c.nameless_value.ensures)

@@ -1,5 +1,5 @@
 use Rattle.std.proofs.Common.{ap, ◌∙◌, arith}
-use Rattle.pv_shadow.specs.Buckets.{by_buckets, paged}
+use Rattle.pv_shadow.specs.Buckets.{by_buckets, all_pages}
 use Rattle.pv_shadow.proofs.Buckets.{comes_near, comes_farther, at_err}
 use Rattle.pv_shadow.proofs.table.Pages.insert.Goals as goal
 
@@ -9,7 +9,7 @@ index_mut-requires c = omega (arith, c.is_free.ensures.within c.if-is_free.true,
 pub returns-then-is_free-clause-ok : goal.returns-then-is_free-clause-ok
 returns-then-is_free-clause-ok c =
     let p = c.make_buckets.new.self in
-    comes_near (paged c.args.self.now) p.overflow.entries p.buckets.items c.bucket_of.result c.args.k c.fill.new.self c.args.page c.make_buckets.ensures c.bucket_of.ensures c.fill.ensures
+    comes_near (all_pages c.args.self.now) p.overflow.entries p.buckets.items c.bucket_of.result c.args.k c.fill.new.self c.args.page c.make_buckets.ensures c.bucket_of.ensures c.fill.ensures
     (c.is_free.ensures.within c.if-is_free.true) (c.is_free.ensures.free c.if-is_free.true)
 
 pub returns-in_err-insert-clause-err : goal.returns-in_err-insert-clause-err
@@ -19,4 +19,4 @@ returns-in_err-insert-clause-err c =
 pub returns-clause-ok : goal.returns-clause-ok
 returns-clause-ok c =
     let p = c.make_buckets.new.self in
-    comes_farther (paged c.args.self.now) p.overflow.entries c.insert.new.self.entries p.buckets.items c.args.k c.args.page c.make_buckets.ensures c.requires c.in_ok-insert.ensures.updates.0
+    comes_farther (all_pages c.args.self.now) p.overflow.entries c.insert.new.self.entries p.buckets.items c.args.k c.args.page c.make_buckets.ensures c.requires c.in_ok-insert.ensures.updates.0

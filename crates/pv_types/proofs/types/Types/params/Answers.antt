@@ -6,7 +6,7 @@ use Rattle.pv_types.specs.Kept.{kept_of, AreMeasured}
 use Rattle.pv_types.specs.Known.{Known, tree, trees, tys_in, env, completed_in}
 use Rattle.pv_types.specs.KnownParts.{list_at}
 use Rattle.pv_types.specs.Formed.{IsBuilt, AllBelow, IsNoList, completions, parameters_at, are_adjusted}
-use Rattle.pv_types.specs.Shown.{shown}
+use Rattle.pv_types.specs.Shown.{known_shown}
 use Rattle.pv_types.proofs.Built.{built_list, env-list}
 use Rattle.pv_types.proofs.Equal.{items_of}
 use Rattle.pv_types.proofs.Indexed.{indexed_list}
@@ -16,7 +16,7 @@ use Rattle.pv_types.proofs.types.Types.params.Goals as goal
 
 pub invariant_of-self-2 : goal.invariant_of-self-2
 invariant_of-self-2 c =
-    let m : Known = shown c.self.inside.terms.keys (map items_of c.self.inside.lists.keys) c.self.inside.tags.items c.self.inside.done.items in
+    let m : Known = known_shown c.self.inside.terms.keys (map items_of c.self.inside.lists.keys) c.self.inside.tags.items c.self.inside.done.items in
     let P : Known → Type 0 = λ k. AllBelow (length k.terms) c.args.list.items in
     let all : P m = subst P (sym c.self.view_is) c.requires.known in
     let A : Known → Type 0 = λ k. IsTrue (are_adjusted (tys_in (trees k) c.args.list.items)) in
@@ -35,7 +35,7 @@ returns-clause-extends c =
 
 pub returns-clause-stands : goal.returns-clause-stands
 returns-clause-stands c = λ i lt.
-    let m : Known = shown c.self.inside.terms.keys (map items_of c.self.inside.lists.keys) c.self.inside.tags.items c.self.inside.done.items in
+    let m : Known = known_shown c.self.inside.terms.keys (map items_of c.self.inside.lists.keys) c.self.inside.tags.items c.self.inside.done.items in
     rw c.in_ok-add_list.ensures.keys (tree-list m c.args.list.items i c.self.invariant.0) ∙ ap (λ (k : Known). tree k i) c.self.view_is
 
 pub place_of_list-requires : goal.place_of_list-requires
@@ -79,12 +79,12 @@ returns-clause-equal c = λ q lt e.
 
 pub returns-clause-completed : goal.returns-clause-completed
 returns-clause-completed c =
-    let m : Known = shown c.self.inside.terms.keys (map items_of c.self.inside.lists.keys) c.self.inside.tags.items c.self.inside.done.items in
+    let m : Known = known_shown c.self.inside.terms.keys (map items_of c.self.inside.lists.keys) c.self.inside.tags.items c.self.inside.done.items in
     rw c.in_ok-add_list.ensures.keys (ap (λ ts. completed_in ts m.done) (trees-list m.lists c.args.list.items m.terms c.self.invariant.0.formed)) ∙ ap completions c.self.view_is
 
 pub returns-clause-parameters : goal.returns-clause-parameters
 returns-clause-parameters c = λ p lt.
-    let m : Known = shown c.self.inside.terms.keys (map items_of c.self.inside.lists.keys) c.self.inside.tags.items c.self.inside.done.items in
+    let m : Known = known_shown c.self.inside.terms.keys (map items_of c.self.inside.lists.keys) c.self.inside.tags.items c.self.inside.done.items in
     let P : Known → Type 0 = λ k. p < length k.lists in
     let here : P m = subst P (sym c.self.view_is) lt in
     rw c.in_ok-add_list.ensures.keys (parameters-list m c.args.list.items p c.self.invariant.0 here) ∙ ap (λ (k : Known). parameters_at k p) c.self.view_is

@@ -1,6 +1,6 @@
 use Rattle.std.proofs.Common.{rules, ◌≡◌, ◌∙◌, List, ap, sym, subst, map, true, false}
 use Rattle.std.proofs.lemmas.List.{with_items_is, places}
-use Rattle.pv_unit.specs.Redeclarations.{Entity, marked}
+use Rattle.pv_unit.specs.Redeclarations.{Entity, entities_after}
 use Rattle.pv_unit.specs.Entering.{entity_of}
 use Rattle.pv_unit.specs.Places.{ArePlaced, first_in, noted_in}
 use Rattle.pv_unit.proofs.PlaceRows.{noted_first, place_within, placed_marked}
@@ -20,7 +20,7 @@ invariant_of-self c =
     let items = c.self.inside.all.items in
     let new = c.note_at.new.all in
     let seen = ap (map entity_of) (with_items_is c.self.inside.all c.note_at.new.all (search (rules, places))) in
-    let is : map entity_of new ≡ marked f k d i b (map entity_of items) =
+    let is : map entity_of new ≡ entities_after f k d i b (map entity_of items) =
     c.note_at.ensures
     ∙ ap (λ es. noted_in c.place-place.result d i b es) (ap (map entity_of) c.as_mut_slice.ensures.value)
     ∙ ap (λ o. noted_in o d i b (map entity_of items)) (c.place-place.ensures ∙ ap (first_in f k) (sym c.self.view_is))
@@ -44,4 +44,4 @@ returns c =
     ∙ ap (λ es. noted_in c.place-place.result d i b es) (ap (map entity_of) c.as_mut_slice.ensures.value)
     ∙ ap (λ o. noted_in o d i b (map entity_of items)) (c.place-place.ensures ∙ ap (first_in f k) (sym c.self.view_is))
     ∙ noted_first f k d i b (map entity_of items)
-    ∙ ap (marked f k d i b) c.self.view_is
+    ∙ ap (entities_after f k d i b) c.self.view_is
