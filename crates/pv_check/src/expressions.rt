@@ -1,7 +1,7 @@
 //! Expressions (C17 6.5): their parts from left to right, and what is made of them. They call type names, and those
 //! call them for the sizes of arrays: one cycle, through three modules.
 ghost use Rattle.std.specs.Prelude.{◌≡◌, ◌<◌, false, IfOk, IfSome, OnOk, Some, length, List, ℕ};
-ghost use Rattle.pv_tree.specs.Tables.{Is, is_expression, is_declaration, expression_at as expression_of_node, declaration_at, arguments_at, HasList};
+ghost use Rattle.pv_tree.specs.Tables.{Is, is_expression, is_declaration, expression_at as expression_of_node, declaration_at, arguments_at, IsListOf};
 ghost use Rattle.pv_typed.specs.Known.{Each};
 ghost use Rattle.pv_check.specs.Passing.{after_nodes};
 ghost use Rattle.pv_typed.specs.NodeTrees.{expression_at, IsExpression};
@@ -417,7 +417,7 @@ fn call_to(
     into: &mut TypedUnit,
 ) -> Result<Option<NodeId>, NoMemory>
     requires node { Is u.now is_expression f }
-    requires list { HasList u.now.forest (length u.now.forest.trees) is_expression args }
+    requires list { IsListOf u.now is_expression args }
     requires open { IsOpen into.old s.old }
     ensures open { IfOk result (λ r. OpenIf into.new s.new r) }
     ensures typed { IfOk result (λ r. after_node t.now.texts hidden s.new into.new r ≡ call_with_list u.now.forest line f args (state_of t.now.texts hidden s.old into.old)) }
@@ -443,7 +443,7 @@ fn arguments(
     hidden: bool,
     into: &mut TypedUnit,
 ) -> Result<Option<Vec<NodeId>>, NoMemory>
-    requires list { HasList u.now.forest (length u.now.forest.trees) is_expression args }
+    requires list { IsListOf u.now is_expression args }
     requires open { IsOpen into.old s.old }
     ensures open { IfOk result (λ r. IfSome r (λ v. IsOpen into.new s.new)) }
     ensures nodes { IfOk result (λ r. IfSome r (λ v. Each (IsExpression into.new) v.items)) }

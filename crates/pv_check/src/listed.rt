@@ -1,6 +1,6 @@
 //! Structures, unions and enumerations with their lists (C17 6.7.2.1, 6.7.2.2), whose members have specifiers of their own.
 ghost use Rattle.std.specs.Prelude.{◌≡◌, ◌<◌, ◌≤◌, ◌+◌, IfOk, IfSome, List, Some, pos, ℤ, length};
-ghost use Rattle.pv_tree.specs.Tables.{Is, is_expression, is_declaration, is_declarator, tree_at, trees_at, optional_at, HasList};
+ghost use Rattle.pv_tree.specs.Tables.{Is, is_expression, is_declaration, is_declarator, tree_at, trees_at, optional_at, IsListOf};
 ghost use Rattle.pv_types.specs.Known.{tree};
 ghost use Rattle.pv_types.specs.Ty.{IntTy};
 ghost use Rattle.pv_num.specs.declared.kinds.IntKind.TheVariants as kind;
@@ -45,7 +45,7 @@ pub(crate) fn composite_listed(
     seen: Seen,
     unevaluated: bool,
 ) -> Result<Option<Seen>, NoMemory>
-    requires list { HasList u.now.forest (length u.now.forest.trees) is_declaration list }
+    requires list { IsListOf u.now is_declaration list }
     requires opened { IsOpen into.old s.old }
     requires named { IsType into.old.known seen.named }
     ensures opened { IfOk result (λ r. IfSome r (λ x. IsOpen into.new s.new)) }
@@ -74,7 +74,7 @@ fn members(
     list: ListId,
     unevaluated: bool,
 ) -> Result<Option<MemberList>, NoMemory>
-    requires list { HasList u.now.forest (length u.now.forest.trees) is_declaration list }
+    requires list { IsListOf u.now is_declaration list }
     requires opened { IsOpen into.old s.old }
     ensures opened { IfOk result (λ r. IfSome r (λ x. IsOpen into.new s.new)) }
     ensures goes { IfOk result (λ r. IfSome r (λ x. Goes into.old into.new)) }
@@ -142,7 +142,7 @@ fn member_declarators(
     before: MemberList,
     unevaluated: bool,
 ) -> Result<Option<MemberList>, NoMemory>
-    requires list { HasList u.now.forest (length u.now.forest.trees) is_declarator list }
+    requires list { IsListOf u.now is_declarator list }
     requires opened { IsOpen into.old s.old }
     requires base { base.0 < length into.old.known.terms }
     requires members { AreMembers into.old.known before }
@@ -206,7 +206,7 @@ pub(crate) fn enumeration_listed(
     seen: Seen,
     unevaluated: bool,
 ) -> Result<Option<Seen>, NoMemory>
-    requires list { HasList u.now.forest (length u.now.forest.trees) is_declaration list }
+    requires list { IsListOf u.now is_declaration list }
     requires opened { IsOpen into.old s.old }
     requires named { IsType into.old.known seen.named }
     ensures opened { IfOk result (λ r. IfSome r (λ x. IsOpen into.new s.new)) }
@@ -235,7 +235,7 @@ fn enumerators(
     list: ListId,
     unevaluated: bool,
 ) -> Result<Option<i128>, NoMemory>
-    requires list { HasList u.now.forest (length u.now.forest.trees) is_declaration list }
+    requires list { IsListOf u.now is_declaration list }
     requires opened { IsOpen into.old s.old }
     ensures opened { IfOk result (λ r. IfSome r (λ x. IsOpen into.new s.new)) }
     ensures goes { IfOk result (λ r. IfSome r (λ x. Goes into.old into.new)) }

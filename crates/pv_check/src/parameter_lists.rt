@@ -1,6 +1,6 @@
 //! Lists of parameters (C17 6.7.6.3), which declarators and the lists' declarators need one another for.
-ghost use Rattle.std.specs.Prelude.{◌≡◌, IfOk, IfSome, List, Some, length};
-ghost use Rattle.pv_tree.specs.Tables.{Is, is_declaration, tree_at, trees_at, HasList};
+ghost use Rattle.std.specs.Prelude.{◌≡◌, IfOk, IfSome, List, Some};
+ghost use Rattle.pv_tree.specs.Tables.{Is, is_declaration, tree_at, trees_at, IsListOf};
 ghost use Rattle.pv_typed.specs.Known.{Each};
 ghost use Rattle.pv_check.specs.Declarators.{after_parameter, after_parameters, after_steps, steps_shown, ParameterKnown, StepsKnown, KnownSteps, value_after};
 ghost use Rattle.pv_check.specs.Derivations.{Parameter as WholeParameter};
@@ -35,7 +35,7 @@ pub(crate) fn with_parameters(
     variadic: bool,
     unevaluated: bool,
 ) -> Result<Option<Steps>, NoMemory>
-    requires list { HasList u.now.forest (length u.now.forest.trees) is_declaration list }
+    requires list { IsListOf u.now is_declaration list }
     requires opened { IsOpen into.old s.old }
     requires steps { StepsKnown into.old x }
     ensures opened { IfOk result (λ r. IfSome r (λ k. IsOpen into.new s.new)) }
@@ -62,7 +62,7 @@ fn parameters(
     list: ListId,
     unevaluated: bool,
 ) -> Result<Option<Vec<Parameter>>, NoMemory>
-    requires list { HasList u.now.forest (length u.now.forest.trees) is_declaration list }
+    requires list { IsListOf u.now is_declaration list }
     requires opened { IsOpen into.old s.old }
     ensures opened { IfOk result (λ r. IfSome r (λ v. IsOpen into.new s.new)) }
     ensures goes { IfOk result (λ r. IfSome r (λ v. Goes into.old into.new)) }

@@ -1,6 +1,6 @@
 // Specifiers (C17 6.7.1 to 6.7.3), with the scopes and tables that typing fills.
-ghost use Rattle.std.specs.Prelude.{◌≡◌, ◌<◌, ◌≤◌, ◌+◌, ◌-◌, ◌^◌, ℕ, Some, None, length, IfOk, OnOk, IfSome, IsTrue};
-ghost use Rattle.pv_tree.specs.Tables.{Forest, Is, HasList, is_specifier, is_declaration, specifier_at, trees_at};
+ghost use Rattle.std.specs.Prelude.{◌≡◌, ◌<◌, ◌≤◌, ◌+◌, ◌-◌, ◌^◌, ℕ, Some, None, IfOk, OnOk, IfSome, IsTrue};
+ghost use Rattle.pv_tree.specs.Tables.{Forest, Is, HasList, is_specifier, is_declaration, specifier_at, trees_at, IsListOf};
 ghost use Rattle.pv_tree.specs.Children.{HasSpecChildren};
 ghost use Rattle.pv_check.specs.ListedRows.{list_specifier, list_of, is_unlisted, is_no_keyword, with_composite_tag, with_enumeration_tag, with_typedef_name};
 ghost use Rattle.pv_check.specs.Specifiers.{Seen as WhatIsSeen, typedef_of, with_type};
@@ -275,7 +275,7 @@ fn listed_specifier(
     seen: Seen,
     unevaluated: bool,
 ) -> Result<Option<Seen>, NoMemory>
-    requires list { HasList u.now.forest (length u.now.forest.trees) is_declaration (list_of x) }
+    requires list { IsListOf u.now is_declaration (list_of x) }
     requires opened { IsOpen into.old s.old }
     requires named { IsType into.old.known seen.named }
     ensures opened { IfOk result (λ r. IfSome r (λ y. IsOpen into.new s.new)) }
@@ -304,7 +304,7 @@ pub fn specifiers(
     list: ListId,
     unevaluated: bool,
 ) -> Result<Option<Seen>, NoMemory>
-    requires list { HasList u.now.forest (length u.now.forest.trees) is_specifier list }
+    requires list { IsListOf u.now is_specifier list }
     requires opened { IsOpen into.old s.old }
     ensures opened { IfOk result (λ r. IfSome r (λ x. IsOpen into.new s.new)) }
     ensures goes { IfOk result (λ r. IfSome r (λ x. Goes into.old into.new)) }

@@ -14,7 +14,7 @@ ghost use Rattle.pv_typed.specs.Constants.{and_then};
 ghost use Rattle.pv_check.specs.WordRows.{base_of};
 ghost use Rattle.pv_check.specs.Stepping.{steps_in, AreSteps};
 ghost use Rattle.pv_tree.specs.Nodes.{specifier_of};
-ghost use Rattle.pv_tree.specs.Tables.{Forest, Is, is_declaration, declaration_at, HasList, is_declarator, is_specifier, trees_at, optional_at};
+ghost use Rattle.pv_tree.specs.Tables.{Forest, Is, is_declaration, declaration_at, is_declarator, is_specifier, trees_at, optional_at, IsListOf};
 ghost use Rattle.pv_check.specs.Rows.{type_without_storage};
 ghost use Rattle.pv_check.specs.Typing.{type_named, specifiers};
 ghost use Rattle.pv_tree.specs.Syntax.{TypeName, OfSpecifier, NoTrees, Then};
@@ -111,7 +111,7 @@ pub fn specified_type(
     specs: ListId,
     unevaluated: bool,
 ) -> Result<Option<TypeId>, NoMemory>
-    requires specs { HasList u.now.forest (length u.now.forest.trees) is_specifier specs }
+    requires specs { IsListOf u.now is_specifier specs }
     requires opened { IsOpen into.old s.old }
     ensures opened { IfOk result (λ r. IfSome r (λ k. IsOpen into.new s.new)) }
     ensures goes { IfOk result (λ r. IfSome r (λ k. Goes into.old into.new)) }
@@ -144,7 +144,7 @@ fn type_of_word(spec: Spec) -> Option<Option<IntKind>>
 
 /// The type of a type name that is one keyword, as most are in casts. No words are counted for it, and no steps looked for.
 fn word_alone(u: &Unit, specs: ListId, declarator: Option<NodeId>) -> Option<Option<IntKind>>
-    requires { HasList u.now.forest (length u.now.forest.trees) is_specifier specs }
+    requires { IsListOf u.now is_specifier specs }
     ensures { IfSome result (λ x. (line : ℕ) (z : State) → type_of_name u.now.forest line specs declarator z ≡ give (Some (base_of x)) z) }
 {
     if declarator.is_some() {
@@ -215,7 +215,7 @@ pub(crate) fn type_name(
     declarator: Option<NodeId>,
     unevaluated: bool,
 ) -> Result<Option<TypeId>, NoMemory>
-    requires specs { HasList u.now.forest (length u.now.forest.trees) is_specifier specs }
+    requires specs { IsListOf u.now is_specifier specs }
     requires declarator { IfSome declarator (λ n. Is u.now is_declarator n) }
     requires opened { IsOpen into.old s.old }
     ensures opened { IfOk result (λ r. IfSome r (λ k. IsOpen into.new s.new)) }

@@ -5,8 +5,7 @@ ghost use Rattle.pv_tree.specs.Places.{Initializers};
 ghost use Rattle.pv_decl_forms.specs.Parts.{assignment_expression};
 ghost use Rattle.pv_decl_forms.specs.Pieces.{value, comma_list};
 ghost use Rattle.pv_decl_forms.specs.Reader.{readers, declarator_and_value};
-ghost use Rattle.pv_expr_forms.specs.Sources.{known_names, ReadsInto};
-ghost use Rattle.pv_decl_forms.specs.Sources.{ReadsFrom, RowReads, MayRead};
+ghost use Rattle.pv_decl_forms.specs.Sources.{Reads, ReadsRow, ReadsIfAny};
 ghost use Rattle.pv_decl.specs.Sources.{IsReady};
 
 use crate::declarations::Declarations;
@@ -26,7 +25,7 @@ impl<R: TypeReader> Declarations<'_, R> {
         into: &mut Unit,
     ) -> Result<Option<(NodeId, u32)>, NoMemory>
         requires { IsReady R.types self.now into.old at }
-        ensures { ReadsFrom self.now.source at into.old into.new is_initializer result (readers (known_names R.types self.now.source into.old) depth Initializers) }
+        ensures { Reads R.types self.now.source at into.old into.new is_initializer result (λ names. readers names depth Initializers) }
     {
         if depth == 0 {
             return Ok(None);
@@ -56,7 +55,7 @@ impl<R: TypeReader> Declarations<'_, R> {
         into: &mut Unit,
     ) -> Result<Option<(NodeId, u32)>, NoMemory>
         requires { IsReady R.types self.now into.old at }
-        ensures { ReadsFrom self.now.source at into.old into.new is_expression result (assignment_expression (known_names R.types self.now.source into.old) depth) }
+        ensures { Reads R.types self.now.source at into.old into.new is_expression result (λ names. assignment_expression names depth) }
     {
         expression(
             self.source.tokens,
@@ -78,7 +77,7 @@ impl<R: TypeReader> Declarations<'_, R> {
         into: &mut Unit,
     ) -> Result<(Vec<NodeId>, u32), NoMemory>
         requires { IsReady R.types self.now into.old at }
-        ensures { ReadsInto into.old into.new result (λ r. RowReads self.now.source at into.new is_initializer r.0.items r.1 (comma_list (readers (known_names R.types self.now.source into.old) depth Initializers))) }
+        ensures { ReadsRow R.types self.now.source at into.old into.new is_initializer result (λ names. comma_list (readers names depth Initializers)) }
     {
         let mut parts = Vec::new(*self.source.typedefs.allocator());
         let mut behind = at;
@@ -104,7 +103,7 @@ impl<R: TypeReader> Declarations<'_, R> {
         into: &mut Unit,
     ) -> Result<(Option<NodeId>, u32), NoMemory>
         requires { IsReady R.types self.now into.old at }
-        ensures { ReadsInto into.old into.new result (λ r. MayRead self.now.source at into.new is_initializer r.0 r.1 (value (readers (known_names R.types self.now.source into.old) depth Initializers))) }
+        ensures { ReadsIfAny R.types self.now.source at into.old into.new is_initializer result (λ names. value (readers names depth Initializers)) }
     {
         let Some(behind) = after(self.source.tokens, at, Sign::Equals) else {
             return Ok((None, at));
@@ -126,7 +125,7 @@ impl<R: TypeReader> Declarations<'_, R> {
     ) -> Result<Option<(NodeId, u32)>, NoMemory>
         requires ready { IsReady R.types self.now into.old at }
         requires declarator { Is into.old is_declarator declarator }
-        ensures { ReadsFrom self.now.source at into.old into.new is_declaration result (λ ts. Some (declarator_and_value (readers (known_names R.types self.now.source into.old) depth) line (tree_at into.old.forest declarator) ts)) }
+        ensures { Reads R.types self.now.source at into.old into.new is_declaration result (λ names ts. Some (declarator_and_value (readers names depth) line (tree_at into.old.forest declarator) ts)) }
     {
         let (init, end) = self.initial_value(at, depth, into)?;
         let declared = Decl::InitDeclarator { declarator, init };

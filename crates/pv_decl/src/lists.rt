@@ -3,8 +3,7 @@ ghost use Rattle.std.specs.Prelude.{◌≡◌, ◌≤◌, ◌<◌, ◌+◌, ℕ,
 ghost use Rattle.pv_tree.specs.Tables.{optional_at, is_declarator, Is};
 ghost use Rattle.pv_decl_forms.specs.Declarators.{parameters_behind};
 ghost use Rattle.pv_decl.specs.Filled.{list_map};
-ghost use Rattle.pv_expr_forms.specs.Sources.{known_names};
-ghost use Rattle.pv_decl_forms.specs.Sources.{ReadsFrom};
+ghost use Rattle.pv_decl_forms.specs.Sources.{Reads};
 ghost use Rattle.pv_decl_forms.specs.Parts.{function_of};
 ghost use Rattle.pv_decl_forms.specs.Reader.{readers};
 ghost use Rattle.pv_decl.specs.Sources.{IsReady};
@@ -94,7 +93,7 @@ impl<R: TypeReader> Declarations<'_, R> {
         requires list { list_map self.now.lists.now at ≡ Some list }
         requires left { IfSome left (λ n. Is into.old is_declarator n) }
         requires shallow { below ≤ 500 }
-        ensures { ReadsFrom self.now.source at into.old into.new is_declarator result (parameters_behind (function_of line (optional_at into.old.forest left)) (readers (known_names R.types self.now.source into.old) below)) }
+        ensures { Reads R.types self.now.source at into.old into.new is_declarator result (λ names. parameters_behind (function_of line (optional_at into.old.forest left)) (readers names below)) }
     {
         let Some((known, end)) = list else {
             return Ok(None);

@@ -7,8 +7,7 @@ ghost use Rattle.pv_expr_forms.specs.Known.{names_in};
 ghost use Rattle.pv_expr_forms.specs.Spelled.{IsSpelled, IsLongest, IsOnly, NothingSpells};
 ghost use Rattle.pv_decl_forms.specs.Grammar.{SpellsDeclaration};
 ghost use Rattle.pv_decl_forms.specs.Reader.{readers, after_specifiers, declaration, type_name, declared_from};
-ghost use Rattle.pv_expr_forms.specs.Sources.{known_names, ReadsInto};
-ghost use Rattle.pv_decl_forms.specs.Sources.{ReadsFrom, RowReads};
+ghost use Rattle.pv_decl_forms.specs.Sources.{Reads, ReadsRow};
 ghost use Rattle.pv_decl.specs.Sources.{IsReady};
 
 use crate::declarations::Declarations;
@@ -34,7 +33,7 @@ impl<R: TypeReader> Declarations<'_, R> {
     ) -> Result<Option<(NodeId, u32)>, NoMemory>
         requires ready { IsReady R.types self.now into.old at }
         requires specs { All (λ n. Is into.old is_specifier n) specs.now }
-        ensures { ReadsFrom self.now.source at into.old into.new is_declaration result (after_specifiers (readers (known_names R.types self.now.source into.old) below) line (trees_of into.old.forest specs.now)) }
+        ensures { Reads R.types self.now.source at into.old into.new is_declaration result (λ names. after_specifiers (readers names below) line (trees_of into.old.forest specs.now)) }
     {
         if after(self.source.tokens, at, Sign::Semicolon).is_some() {
             return declaration_of(self.source.tokens, at, specs, &[], line, into);
@@ -69,7 +68,7 @@ impl<R: TypeReader> Declarations<'_, R> {
         into: &mut Unit,
     ) -> Result<Option<(NodeId, u32)>, NoMemory>
         requires { IsReady R.types self.now into.old at }
-        ensures { ReadsFrom self.now.source at into.old into.new is_declaration result (readers (known_names R.types self.now.source into.old) depth InitDeclarators) }
+        ensures { Reads R.types self.now.source at into.old into.new is_declaration result (λ names. readers names depth InitDeclarators) }
     {
         let line = line_at(self.source.tokens, at);
         match self.read(Part::Declarator(Form::Named), at, depth, into)? {
@@ -88,7 +87,7 @@ impl<R: TypeReader> Declarations<'_, R> {
     ) -> Result<(Vec<NodeId>, u32), NoMemory>
         requires ready { IsReady R.types self.now into.old at }
         requires first { Is into.old is_declaration first }
-        ensures { ReadsInto into.old into.new result (λ r. RowReads self.now.source at into.new is_declaration r.0.items r.1 (declared_from (readers (known_names R.types self.now.source into.old) below) (tree_at into.old.forest first))) }
+        ensures { ReadsRow R.types self.now.source at into.old into.new is_declaration result (λ names. declared_from (readers names below) (tree_at into.old.forest first)) }
     {
         let mut declared = Vec::new(*self.source.typedefs.allocator());
         declared.push(first)?;
@@ -112,7 +111,7 @@ impl<R: TypeReader> Declarations<'_, R> {
         into: &mut Unit,
     ) -> Result<Option<(NodeId, u32)>, NoMemory>
         requires { IsReady R.types self.now into.old at }
-        ensures { ReadsFrom self.now.source at into.old into.new is_declaration result (declaration (known_names R.types self.now.source into.old) depth) }
+        ensures { Reads R.types self.now.source at into.old into.new is_declaration result (λ names. declaration names depth) }
     {
         if depth == 0 {
             return Ok(None);
@@ -133,7 +132,7 @@ impl<R: TypeReader> Declarations<'_, R> {
         into: &mut Unit,
     ) -> Result<Option<(NodeId, u32)>, NoMemory>
         requires { IsReady R.types self.now into.old at }
-        ensures { ReadsFrom self.now.source at into.old into.new is_declaration result (type_name (known_names R.types self.now.source into.old) depth) }
+        ensures { Reads R.types self.now.source at into.old into.new is_declaration result (λ names. type_name names depth) }
     {
         let line = line_at(self.source.tokens, at);
         let (specs, next) = self.row(Part::Specifier, at, depth, into)?;
@@ -152,7 +151,7 @@ impl<R: TypeReader> Declarations<'_, R> {
         into: &mut Unit,
     ) -> Result<Option<(NodeId, u32)>, NoMemory>
         requires { IsReady R.types self.now into.old at }
-        ensures { ReadsFrom self.now.source at into.old into.new is_declaration result (type_name (known_names R.types self.now.source into.old) depth) }
+        ensures { Reads R.types self.now.source at into.old into.new is_declaration result (λ names. type_name names depth) }
     {
         match alone(self.source.tokens, at) {
             Some((token, next)) => self.word_name(at, token, next, into),

@@ -9,8 +9,7 @@ ghost use Rattle.pv_decl_forms.specs.Declarators.{consts_in_row, longest_declara
 ghost use Rattle.pv_decl_forms.specs.Parts.{kind_of_part, place_of_part, word_of_tag, within, function_of};
 ghost use Rattle.pv_decl_forms.specs.Pieces.{is_open_brace, row, comma_list};
 ghost use Rattle.pv_decl_forms.specs.Reader.{readers, behind_open_brace};
-ghost use Rattle.pv_expr_forms.specs.Sources.{known_names, ReadsInto};
-ghost use Rattle.pv_decl_forms.specs.Sources.{ReadsFrom, RowReads};
+ghost use Rattle.pv_decl_forms.specs.Sources.{Reads, ReadsRow};
 ghost use Rattle.pv_decl.specs.Sources.{IsReady};
 
 use crate::declarations::Declarations;
@@ -34,7 +33,7 @@ impl<R: TypeReader> Declarations<'_, R> {
         into: &mut Unit,
     ) -> Result<Option<(NodeId, u32)>, NoMemory>
         requires { IsReady R.types self.now into.old at }
-        ensures { ReadsFrom self.now.source at into.old into.new (kind_of_part part) result (readers (known_names R.types self.now.source into.old) depth (place_of_part part)) }
+        ensures { Reads R.types self.now.source at into.old into.new (kind_of_part part) result (λ names. readers names depth (place_of_part part)) }
     {
         match part {
             Part::Specifier => self.specifier(at, depth, into),
@@ -55,7 +54,7 @@ impl<R: TypeReader> Declarations<'_, R> {
         into: &mut Unit,
     ) -> Result<(Vec<NodeId>, u32), NoMemory>
         requires { IsReady R.types self.now into.old at }
-        ensures { ReadsInto into.old into.new result (λ r. RowReads self.now.source at into.new (kind_of_part part) r.0.items r.1 (row (readers (known_names R.types self.now.source into.old) depth (place_of_part part)) NoTrees)) }
+        ensures { ReadsRow R.types self.now.source at into.old into.new (kind_of_part part) result (λ names. row (readers names depth (place_of_part part)) NoTrees) }
     {
         let mut parts = Vec::new(*self.source.typedefs.allocator());
         let mut next = at;
@@ -78,7 +77,7 @@ impl<R: TypeReader> Declarations<'_, R> {
         into: &mut Unit,
     ) -> Result<(Vec<NodeId>, u32), NoMemory>
         requires { IsReady R.types self.now into.old at }
-        ensures { ReadsInto into.old into.new result (λ r. RowReads self.now.source at into.new (kind_of_part part) r.0.items r.1 (comma_list (readers (known_names R.types self.now.source into.old) depth (place_of_part part)))) }
+        ensures { ReadsRow R.types self.now.source at into.old into.new (kind_of_part part) result (λ names. comma_list (readers names depth (place_of_part part))) }
     {
         let mut parts = Vec::new(*self.source.typedefs.allocator());
         let mut behind = at;
@@ -106,7 +105,7 @@ impl<R: TypeReader> Declarations<'_, R> {
         into: &mut Unit,
     ) -> Result<Option<(NodeId, u32)>, NoMemory>
         requires { IsReady R.types self.now into.old at }
-        ensures { ReadsFrom self.now.source at into.old into.new is_specifier result (readers (known_names R.types self.now.source into.old) depth Specifiers) }
+        ensures { Reads R.types self.now.source at into.old into.new is_specifier result (λ names. readers names depth Specifiers) }
     {
         let Some(token) = peek(self.source.tokens, at) else {
             return Ok(None);
@@ -140,7 +139,7 @@ impl<R: TypeReader> Declarations<'_, R> {
         into: &mut Unit,
     ) -> Result<Option<(NodeId, u32)>, NoMemory>
         requires { IsReady R.types self.now into.old at }
-        ensures { ReadsFrom self.now.source at into.old into.new is_specifier result (λ ts. option_and_then (behind_open_brace (within (known_names R.types self.now.source into.old) depth) line (word_of_tag word) tag) (after is_open_brace ts)) }
+        ensures { Reads R.types self.now.source at into.old into.new is_specifier result (λ names ts. option_and_then (behind_open_brace (within names depth) line (word_of_tag word) tag) (after is_open_brace ts)) }
     {
         let Some(inside) = after(self.source.tokens, at, Sign::OpenBrace) else {
             return Ok(None);
@@ -177,7 +176,7 @@ impl<R: TypeReader> Declarations<'_, R> {
         into: &mut Unit,
     ) -> Result<Option<(NodeId, u32)>, NoMemory>
         requires { IsReady R.types self.now into.old at }
-        ensures { ReadsFrom self.now.source at into.old into.new is_declaration result (readers (known_names R.types self.now.source into.old) depth Members) }
+        ensures { Reads R.types self.now.source at into.old into.new is_declaration result (λ names. readers names depth Members) }
     {
         let line = line_at(self.source.tokens, at);
         let (specs, next) = self.row(Part::Specifier, at, depth, into)?;
@@ -197,7 +196,7 @@ impl<R: TypeReader> Declarations<'_, R> {
         into: &mut Unit,
     ) -> Result<Option<(NodeId, u32)>, NoMemory>
         requires { IsReady R.types self.now into.old at }
-        ensures { ReadsFrom self.now.source at into.old into.new is_declaration result (readers (known_names R.types self.now.source into.old) depth Parameters) }
+        ensures { Reads R.types self.now.source at into.old into.new is_declaration result (λ names. readers names depth Parameters) }
     {
         if depth == 0 {
             return Ok(None);
@@ -221,7 +220,7 @@ impl<R: TypeReader> Declarations<'_, R> {
         into: &mut Unit,
     ) -> Result<Option<(NodeId, u32)>, NoMemory>
         requires { IsReady R.types self.now into.old at }
-        ensures { ReadsFrom self.now.source at into.old into.new is_declarator result (readers (known_names R.types self.now.source into.old) depth (place_of_part (part.Declarator form))) }
+        ensures { Reads R.types self.now.source at into.old into.new is_declarator result (λ names. readers names depth (place_of_part (part.Declarator form))) }
     {
         if depth == 0 {
             return Ok(None);
@@ -245,7 +244,7 @@ impl<R: TypeReader> Declarations<'_, R> {
     ) -> Result<Option<(NodeId, u32)>, NoMemory>
         requires ready { IsReady R.types self.now into.old at }
         requires node { Is into.old is_declarator first }
-        ensures { ReadsFrom self.now.source at into.old into.new is_declarator result (λ ts. Some (longest_declarator (readers (known_names R.types self.now.source into.old) below) below line (tree_at into.old.forest first) ts)) }
+        ensures { Reads R.types self.now.source at into.old into.new is_declarator result (λ names ts. Some (longest_declarator (readers names below) below line (tree_at into.old.forest first) ts)) }
     {
         let mut left = first;
         let mut next = at;
@@ -273,7 +272,7 @@ impl<R: TypeReader> Declarations<'_, R> {
     ) -> Result<Option<(NodeId, u32)>, NoMemory>
         requires ready { IsReady R.types self.now into.old at }
         requires node { Is into.old is_declarator left }
-        ensures { ReadsFrom self.now.source at into.old into.new is_declarator result (longer_declarator (readers (known_names R.types self.now.source into.old) below) below line (tree_at into.old.forest left)) }
+        ensures { Reads R.types self.now.source at into.old into.new is_declarator result (λ names. longer_declarator (readers names below) below line (tree_at into.old.forest left)) }
     {
         if !may_go_on(into, left, below) {
             return Ok(None);
@@ -304,7 +303,7 @@ impl<R: TypeReader> Declarations<'_, R> {
     ) -> Result<Option<(NodeId, u32)>, NoMemory>
         requires ready { IsReady R.types self.now into.old at }
         requires left { IfSome left (λ n. Is into.old is_declarator n) }
-        ensures { ReadsFrom self.now.source at into.old into.new is_declarator result (parameters_behind (function_of line (optional_at into.old.forest left)) (readers (known_names R.types self.now.source into.old) below)) }
+        ensures { Reads R.types self.now.source at into.old into.new is_declarator result (λ names. parameters_behind (function_of line (optional_at into.old.forest left)) (readers names below)) }
     {
         if below <= DEPTH_LIMIT {
             if let Some(list) = self.lists.at(at) {
@@ -325,7 +324,7 @@ impl<R: TypeReader> Declarations<'_, R> {
         into: &mut Unit,
     ) -> Result<Option<(NodeId, u32)>, NoMemory>
         requires { IsReady R.types self.now into.old at }
-        ensures { ReadsFrom self.now.source at into.old into.new is_declarator result (head (known_names R.types self.now.source into.old) (readers (known_names R.types self.now.source into.old) below) form) }
+        ensures { Reads R.types self.now.source at into.old into.new is_declarator result (λ names. head names (readers names below) form) }
     {
         let Some(token) = peek(self.source.tokens, at) else {
             return Ok(None);
@@ -364,7 +363,7 @@ impl<R: TypeReader> Declarations<'_, R> {
         into: &mut Unit,
     ) -> Result<Option<(NodeId, u32)>, NoMemory>
         requires { IsReady R.types self.now into.old at }
-        ensures { ReadsFrom self.now.source at into.old into.new is_declarator result (λ ts. pointer (readers (known_names R.types self.now.source into.old) below) form line (consts_in_row ts) (drop (consts_in_row ts) ts)) }
+        ensures { Reads R.types self.now.source at into.old into.new is_declarator result (λ names ts. pointer (readers names below) form line (consts_in_row ts) (drop (consts_in_row ts) ts)) }
     {
         let (consts, behind) = consts_in_row(self.source.tokens, at);
         let inner = self.read(Part::Declarator(form), behind, below, into)?;
@@ -383,7 +382,7 @@ impl<R: TypeReader> Declarations<'_, R> {
         into: &mut Unit,
     ) -> Result<Option<(NodeId, u32)>, NoMemory>
         requires { IsReady R.types self.now into.old at }
-        ensures { ReadsFrom self.now.source at into.old into.new is_declarator result (behind_paren (known_names R.types self.now.source into.old) (readers (known_names R.types self.now.source into.old) below) form line) }
+        ensures { Reads R.types self.now.source at into.old into.new is_declarator result (λ names. behind_paren names (readers names below) form line) }
     {
         if opens_parameters(self.source.tokens, self.source.typedefs, at) {
             if form.allows_abstract() {

@@ -7,8 +7,7 @@ ghost use Rattle.pv_decl_forms.specs.Declarators.{allows_abstract, size_behind};
 ghost use Rattle.pv_decl_forms.specs.Parts.{array_of};
 ghost use Rattle.pv_decl_forms.specs.Pieces.{value};
 ghost use Rattle.pv_decl_forms.specs.Reader.{readers};
-ghost use Rattle.pv_expr_forms.specs.Sources.{known_names, ReadsInto};
-ghost use Rattle.pv_decl_forms.specs.Sources.{ReadsFrom, MayRead};
+ghost use Rattle.pv_decl_forms.specs.Sources.{Reads, ReadsIfAny};
 ghost use Rattle.pv_decl.specs.Sources.{IsReady};
 
 use crate::declarations::Declarations;
@@ -28,7 +27,7 @@ impl<R: TypeReader> Declarations<'_, R> {
         into: &mut Unit,
     ) -> Result<Option<(NodeId, u32)>, NoMemory>
         requires { IsReady R.types self.now into.old at }
-        ensures { ReadsFrom self.now.source at into.old into.new is_expression result (readers (known_names R.types self.now.source into.old) depth Constants) }
+        ensures { Reads R.types self.now.source at into.old into.new is_expression result (λ names. readers names depth Constants) }
     {
         expression(
             self.source.tokens,
@@ -53,7 +52,7 @@ impl<R: TypeReader> Declarations<'_, R> {
     ) -> Result<Option<(NodeId, u32)>, NoMemory>
         requires ready { IsReady R.types self.now into.old at }
         requires left { IfSome left (λ n. Is into.old is_declarator n) }
-        ensures { ReadsFrom self.now.source at into.old into.new is_declarator result (size_behind (array_of line (optional_at into.old.forest left)) (readers (known_names R.types self.now.source into.old) below)) }
+        ensures { Reads R.types self.now.source at into.old into.new is_declarator result (λ names. size_behind (array_of line (optional_at into.old.forest left)) (readers names below)) }
     {
         match self.constant(at, below, into)? {
             Some((size, end)) => array_of(self.source.tokens, end, left, Some(size), line, into),
@@ -71,7 +70,7 @@ impl<R: TypeReader> Declarations<'_, R> {
         into: &mut Unit,
     ) -> Result<Option<(NodeId, u32)>, NoMemory>
         requires { IsReady R.types self.now into.old at }
-        ensures { ReadsFrom self.now.source at into.old into.new is_declarator result (λ ts. if allows_abstract form then size_behind (array_of line Absent) (readers (known_names R.types self.now.source into.old) below) ts else None) }
+        ensures { Reads R.types self.now.source at into.old into.new is_declarator result (λ names ts. if allows_abstract form then size_behind (array_of line Absent) (readers names below) ts else None) }
     {
         if form.allows_abstract() {
             self.array(at, None, line, below, into)
@@ -88,7 +87,7 @@ impl<R: TypeReader> Declarations<'_, R> {
         into: &mut Unit,
     ) -> Result<(Option<NodeId>, u32), NoMemory>
         requires { IsReady R.types self.now into.old at }
-        ensures { ReadsInto into.old into.new result (λ r. MayRead self.now.source at into.new is_expression r.0 r.1 (value (readers (known_names R.types self.now.source into.old) depth Constants))) }
+        ensures { ReadsIfAny R.types self.now.source at into.old into.new is_expression result (λ names. value (readers names depth Constants)) }
     {
         let Some(behind) = after(self.source.tokens, at, Sign::Equals) else {
             return Ok((None, at));
@@ -107,7 +106,7 @@ impl<R: TypeReader> Declarations<'_, R> {
         into: &mut Unit,
     ) -> Result<Option<(NodeId, u32)>, NoMemory>
         requires { IsReady R.types self.now into.old at }
-        ensures { ReadsFrom self.now.source at into.old into.new is_declaration result (readers (known_names R.types self.now.source into.old) depth Enumerators) }
+        ensures { Reads R.types self.now.source at into.old into.new is_declaration result (λ names. readers names depth Enumerators) }
     {
         let Some(token) = peek(self.source.tokens, at) else {
             return Ok(None);

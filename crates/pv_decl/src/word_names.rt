@@ -12,7 +12,7 @@ ghost use Rattle.pv_expr_forms.specs.Sources.{known_names};
 ghost use Rattle.pv_decl_forms.specs.Answers.{Answers};
 ghost use Rattle.pv_decl_forms.specs.Parts.{tag_word_of, plain_of};
 ghost use Rattle.pv_decl_forms.specs.Reader.{type_name};
-ghost use Rattle.pv_decl_forms.specs.Sources.{ReadsFrom};
+ghost use Rattle.pv_decl_forms.specs.Sources.{Reads};
 ghost use Rattle.pv_decl.specs.Sources.{IsReady};
 
 use crate::declarations::Declarations;
@@ -149,7 +149,7 @@ impl<R: TypeReader> Declarations<'_, R> {
         requires place { next ≤ length self.now.source.tokens.now.tokens }
         requires plain { tag_word_of token.kind ≡ None }
         requires closed { is_some (after is_close (drop next self.now.source.tokens.now.tokens)) ≡ true }
-        ensures { (depth : ℕ) → ReadsFrom self.now.source at into.old into.new is_declaration result (type_name (known_names R.types self.now.source into.old) depth) }
+        ensures { (depth : ℕ) → Reads R.types self.now.source at into.old into.new is_declaration result (λ names. type_name names depth) }
     {
         let word = plain(self.source.tokens, self.source.typedefs, next, token, into)?;
         let Some((spec, end)) = word else {
@@ -172,7 +172,7 @@ impl<R: TypeReader> Declarations<'_, R> {
         requires place { next ≤ length self.now.source.tokens.now.tokens }
         requires plain { tag_word_of token.kind ≡ None }
         requires closed { is_some (after is_close (drop next self.now.source.tokens.now.tokens)) ≡ true }
-        ensures { (depth : ℕ) → ReadsFrom self.now.source at into.old into.new is_declaration result (type_name (known_names R.types self.now.source into.old) depth) }
+        ensures { (depth : ℕ) → Reads R.types self.now.source at into.old into.new is_declaration result (λ names. type_name names depth) }
     {
         if let Some(name) = self.word_again(at, token, next, into) {
             return Ok(Some((name, next)));

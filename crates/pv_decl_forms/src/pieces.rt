@@ -5,7 +5,7 @@ ghost use Rattle.indexmap.specs.IndexSet.{contains};
 ghost use Rattle.pv_tree.specs.Children.{HasSpecChildren, HasDeclaratorChildren};
 ghost use Rattle.pv_tree.specs.Nodes.{specifier_of, declarator_of};
 ghost use Rattle.pv_tree.specs.Syntax.{OfDeclarator, Declaration, Parameter, TypeName, Composite, Enumeration, Braces, OfSpecifier, OfInitializer};
-ghost use Rattle.pv_tree.specs.Tables.{Forest, HasList, trees_of, trees_at, optional_at, is_declaration, is_declarator, is_expression, is_initializer, is_specifier, Is, Extends};
+ghost use Rattle.pv_tree.specs.Tables.{Forest, HasList, trees_of, trees_at, optional_at, is_declaration, is_declarator, is_expression, is_initializer, is_specifier, Is, Extends, IsListOf};
 ghost use Rattle.pv_decl_forms.specs.Answers.{piece_from, IsThere, Answers, AnswersAt};
 ghost use Rattle.pv_decl_forms.specs.Declarators.{behind_size, variadic_at, with_parameters, pointer_tree, in_parentheses};
 ghost use Rattle.pv_decl_forms.specs.Parts.{word_of_composite, word_of_tag, keyword_of, plain_of, named_of, array_of, function_of};
@@ -305,7 +305,7 @@ pub fn function_node(
 ) -> Declarator
     requires { IfSome left (λ n. Is unit.now is_declarator n) }
     ensures is { (line : ℕ) → OfDeclarator (declarator_of unit.now.forest line result) ≡ function_of line (optional_at unit.now.forest left) (trees_at unit.now.forest parameters) variadic }
-    ensures children { HasList unit.now.forest (length unit.now.forest.trees) is_declaration parameters → HasDeclaratorChildren unit.now.forest (length unit.now.forest.trees) result }
+    ensures children { IsListOf unit.now is_declaration parameters → HasDeclaratorChildren unit.now.forest (length unit.now.forest.trees) result }
 {
     match left {
         Some(declarator) if is_named(unit, declarator) => Declarator::Function {

@@ -2,7 +2,7 @@
 ghost use Rattle.std.specs.Prelude.{Some, option_and_then};
 ghost use Rattle.pv_tree.specs.Tables.{expression_at, is_expression, Is};
 ghost use Rattle.pv_expr_forms.specs.Reader.{read, head, longest_tree, longer_tree, third_operand, call_behind, sizeof_named_type};
-ghost use Rattle.pv_expr_forms.specs.Sources.{known_names, IsReady, ReadsFrom};
+ghost use Rattle.pv_expr_forms.specs.Sources.{IsReady, Reads};
 
 use crate::nodes::{
     call, combined, enclosed, follow_at, found, is_looser, leaf, line_of, operand_level, suffixed,
@@ -25,7 +25,7 @@ pub(crate) fn read_tree<R: TypeReader>(
     into: &mut Unit,
 ) -> Result<Option<(NodeId, u32)>, NoMemory>
     requires { IsReady R.types source.now into.old at }
-    ensures { ReadsFrom source.now at into.old into.new result (read (known_names R.types source.now into.old) depth level) }
+    ensures { Reads R.types source.now at into.old into.new result (λ names. read names depth level) }
 {
     if depth == 0 {
         return Ok(None);
@@ -51,7 +51,7 @@ fn read_head<R: TypeReader>(
     into: &mut Unit,
 ) -> Result<Option<(NodeId, u32)>, NoMemory>
     requires { IsReady R.types source.now into.old at }
-    ensures { ReadsFrom source.now at into.old into.new result (head (known_names R.types source.now into.old) (read (known_names R.types source.now into.old) below) below) }
+    ensures { Reads R.types source.now at into.old into.new result (λ names. head names (read names below) below) }
 {
     let Some(token) = peek(source.tokens, at) else {
         return Ok(None);
@@ -78,7 +78,7 @@ fn measure<R: TypeReader>(
     into: &mut Unit,
 ) -> Result<Option<(NodeId, u32)>, NoMemory>
     requires { IsReady R.types source.now into.old at }
-    ensures { ReadsFrom source.now at into.old into.new result (λ ts. option_and_then (λ x. sizeof_named_type below line x.0 x.1) ((known_names R.types source.now into.old).type_at ts)) }
+    ensures { Reads R.types source.now at into.old into.new result (λ names ts. option_and_then (λ x. sizeof_named_type below line x.0 x.1) (names.type_at ts)) }
 {
     match type_closed(source, at, below, into) {
         Some((name, next)) => { found(source.tokens, next, Expr::SizeofType(name), line, into) }
@@ -98,8 +98,8 @@ fn grow<R: TypeReader>(
 ) -> Result<Option<(NodeId, u32)>, NoMemory>
     requires ready { IsReady R.types source.now into.old at }
     requires node { Is into.old is_expression first }
-    ensures { let names = known_names R.types source.now into.old in
-        ReadsFrom source.now at into.old into.new result (λ ts. Some (longest_tree names (read names below) level below (expression_at into.old.forest first) ts)) }
+    ensures { Reads R.types source.now at into.old into.new result
+        (λ names ts. Some (longest_tree names (read names below) level below (expression_at into.old.forest first) ts)) }
 {
     let mut left = first;
     let mut next = at;
@@ -126,8 +126,8 @@ fn extend<R: TypeReader>(
 ) -> Result<Option<(NodeId, u32)>, NoMemory>
     requires ready { IsReady R.types source.now into.old at }
     requires node { Is into.old is_expression left }
-    ensures { let names = known_names R.types source.now into.old in
-        ReadsFrom source.now at into.old into.new result (longer_tree names (read names below) level below (expression_at into.old.forest left)) }
+    ensures { Reads R.types source.now at into.old into.new result
+        (λ names. longer_tree names (read names below) level below (expression_at into.old.forest left)) }
 {
     let Some(follow) = follow_at(source.tokens, at, left, level, below, into) else {
         return Ok(None);
@@ -161,7 +161,7 @@ fn ask<R: TypeReader>(
     requires ready { IsReady R.types source.now into.old at }
     requires condition { Is into.old is_expression condition }
     requires yes { Is into.old is_expression yes }
-    ensures { ReadsFrom source.now at into.old into.new result (third_operand (read (known_names R.types source.now into.old) below) (expression_at into.old.forest condition) (expression_at into.old.forest yes)) }
+    ensures { Reads R.types source.now at into.old into.new result (λ names. third_operand (read names below) (expression_at into.old.forest condition) (expression_at into.old.forest yes)) }
 {
     let Some(next) = after_colon(source.tokens, at) else {
         return Ok(None);
@@ -192,7 +192,7 @@ fn arguments<R: TypeReader>(
 ) -> Result<Option<(NodeId, u32)>, NoMemory>
     requires ready { IsReady R.types source.now into.old at }
     requires node { Is into.old is_expression callee }
-    ensures { ReadsFrom source.now at into.old into.new result (call_behind (read (known_names R.types source.now into.old) below) (expression_at into.old.forest callee)) }
+    ensures { Reads R.types source.now at into.old into.new result (λ names. call_behind (read names below) (expression_at into.old.forest callee)) }
 {
     if let Some(next) = after_close(source.tokens, at) {
         return call(source.tokens, next, callee, &[], into);

@@ -35,3 +35,7 @@ pub record ReadsInto {A E : Type 0} (u v : Tables) (result : Result A E) (IsAnsw
 -- the expression that is read from a place on is what reading on lists gives
 abbrev pub ReadsFrom : {R E : Type 0} → Source R → (at : ℕ) → (u v : Tables) → Result (Option (NodeId × ℕ)) E → (List Token → Read) → Type 0
 ReadsFrom source at u v result reading = ReadsInto u v result (λ r. Answers v source.tokens.now.tokens r (reading (tokens_from source at)))
+
+-- the same, where what reading gives goes by what is known of names
+abbrev pub Reads : {R E : Type 0} → (R → TypeMap) → Source R → (at : ℕ) → (u v : Tables) → Result (Option (NodeId × ℕ)) E → (Names → List Token → Read) → Type 0
+Reads types source at u v result reading = ReadsFrom source at u v result (reading (known_names types source u))

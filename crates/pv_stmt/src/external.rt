@@ -1,14 +1,14 @@
 //! One external declaration: a declaration or a function definition (C17 6.9).
 ghost use Rattle.std.specs.Prelude.{◌≡◌, ◌≤◌, length, Some, None, IfOk, IfSome, nat_eq};
 ghost use Rattle.indexmap.specs.IndexSet.{contains};
-ghost use Rattle.pv_tree.specs.Tables.{is_specifier, is_declarator, Is, HasList, Extends};
+ghost use Rattle.pv_tree.specs.Tables.{is_specifier, is_declarator, Is, Extends, IsListOf};
 ghost use Rattle.pv_tree.specs.Syntax.{is_external};
 ghost use Rattle.pv_tree.specs.Units.{depth_limit};
 ghost use Rattle.pv_stmt_forms.specs.Statements.{statement};
 ghost use Rattle.pv_stmt_forms.specs.Externals.{external};
 ghost use Rattle.pv_stmt_forms.specs.Found.{IsExternalAt, function_at};
-ghost use Rattle.pv_expr_forms.specs.Sources.{known_names, IsReady};
-ghost use Rattle.pv_decl_forms.specs.Sources.{ReadsFrom};
+ghost use Rattle.pv_expr_forms.specs.Sources.{IsReady};
+ghost use Rattle.pv_decl_forms.specs.Sources.{Reads};
 
 use crate::parts::declaration;
 use crate::reading::statement;
@@ -28,7 +28,7 @@ fn read_external<R: TypeReader>(
     into: &mut Unit,
 ) -> Result<Option<(NodeId, u32)>, NoMemory>
     requires { IsReady R.types source.now into.old at }
-    ensures { ReadsFrom source.now at into.old into.new is_external result (external (known_names R.types source.now into.old) depth_limit) }
+    ensures { Reads R.types source.now at into.old into.new is_external result (λ names. external names depth_limit) }
 {
     let Some((head, next)) = declaration(source, at, DEPTH_LIMIT, into)? else {
         return Ok(None);
@@ -57,9 +57,9 @@ fn function<R: TypeReader>(
     into: &mut Unit,
 ) -> Result<Option<(NodeId, u32)>, NoMemory>
     requires ready { IsReady R.types source.now into.old at }
-    requires specs { HasList into.old.forest (length into.old.forest.trees) is_specifier specs }
+    requires specs { IsListOf into.old is_specifier specs }
     requires declarator { Is into.old is_declarator declarator }
-    ensures { ReadsFrom source.now at into.old into.new is_external result (λ ts. function_at into.old.forest line specs declarator (statement (known_names R.types source.now into.old) 499 ts)) }
+    ensures { Reads R.types source.now at into.old into.new is_external result (λ names ts. function_at into.old.forest line specs declarator (statement names 499 ts)) }
 {
     let Some((block, end)) = statement(source, at, DEPTH_LIMIT - 1, into)? else {
         return Ok(None);

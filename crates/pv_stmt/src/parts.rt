@@ -7,7 +7,7 @@ ghost use Rattle.pv_decl_forms.specs.Reader.{declaration};
 ghost use Rattle.pv_stmt_forms.specs.Parts.{test_of, PartAnswers, FirstAnswers, HeadAnswers};
 ghost use Rattle.pv_stmt_forms.specs.Statements.{expression, condition, expression_before, simple, return_behind, only_declaration, label};
 ghost use Rattle.pv_expr_forms.specs.Sources.{known_names, tokens_from, IsReady, ReadsInto};
-ghost use Rattle.pv_decl_forms.specs.Sources.{ReadsFrom, RowReads, MayRead};
+ghost use Rattle.pv_decl_forms.specs.Sources.{Reads, ReadsRow, ReadsIfAny};
 
 use pv_expr::Level;
 use pv_expr_forms::{Source, begins_type, peek};
@@ -27,7 +27,7 @@ fn expression<R: TypeReader>(
     into: &mut Unit,
 ) -> Result<Option<(NodeId, u32)>, NoMemory>
     requires { IsReady R.types source.now into.old at }
-    ensures { ReadsFrom source.now at into.old into.new is_expression result (expression (known_names R.types source.now into.old) depth (level_number level)) }
+    ensures { Reads R.types source.now at into.old into.new is_expression result (λ names. expression names depth (level_number level)) }
 {
     pv_expr::expression(
         source.tokens,
@@ -48,7 +48,7 @@ pub(crate) fn condition<R: TypeReader>(
     into: &mut Unit,
 ) -> Result<Option<(NodeId, u32)>, NoMemory>
     requires { IsReady R.types source.now into.old at }
-    ensures { ReadsFrom source.now at into.old into.new is_expression result (condition (known_names R.types source.now into.old) depth) }
+    ensures { Reads R.types source.now at into.old into.new is_expression result (λ names. condition names depth) }
 {
     let Some(inside) = after(source.tokens, at, Sign::OpenParen) else {
         return Ok(None);
@@ -70,7 +70,7 @@ fn optional_expression<R: TypeReader>(
     into: &mut Unit,
 ) -> Result<(Option<NodeId>, u32), NoMemory>
     requires { IsReady R.types source.now into.old at }
-    ensures { ReadsInto into.old into.new result (λ r. MayRead source.now at into.new is_expression r.0 r.1 (λ ts. part_if_any ts (expression (known_names R.types source.now into.old) depth 1 ts))) }
+    ensures { ReadsIfAny R.types source.now at into.old into.new is_expression result (λ names ts. part_if_any ts (expression names depth 1 ts)) }
 {
     match expression(source, at, Level::Comma, depth, into)? {
         Some((value, end)) => Ok((Some(value), end)),
@@ -105,7 +105,7 @@ pub(crate) fn plain<R: TypeReader>(
     into: &mut Unit,
 ) -> Result<Option<(NodeId, u32)>, NoMemory>
     requires { IsReady R.types source.now into.old at }
-    ensures { ReadsFrom source.now at into.old into.new is_statement result (simple (known_names R.types source.now into.old) depth line) }
+    ensures { Reads R.types source.now at into.old into.new is_statement result (λ names. simple names depth line) }
 {
     match expression_before(source, at, Sign::Semicolon, depth, into)? {
         Some((value, end)) => { found_statement(source.tokens, end, Stmt::Expr(value), line, into) }
@@ -122,7 +122,7 @@ pub(crate) fn returned<R: TypeReader>(
     into: &mut Unit,
 ) -> Result<Option<(NodeId, u32)>, NoMemory>
     requires { IsReady R.types source.now into.old at }
-    ensures { ReadsFrom source.now at into.old into.new is_statement result (return_behind (known_names R.types source.now into.old) depth line) }
+    ensures { Reads R.types source.now at into.old into.new is_statement result (λ names. return_behind names depth line) }
 {
     match expression_before(source, at, Sign::Semicolon, depth, into)? {
         Some((value, end)) => {
@@ -140,7 +140,7 @@ pub(crate) fn declaration<R: TypeReader>(
     into: &mut Unit,
 ) -> Result<Option<(NodeId, u32)>, NoMemory>
     requires { IsReady R.types source.now into.old at }
-    ensures { ReadsFrom source.now at into.old into.new is_declaration result (declaration (known_names R.types source.now into.old) depth) }
+    ensures { Reads R.types source.now at into.old into.new is_declaration result (λ names. declaration names depth) }
 {
     pv_decl::declaration(
         source.tokens,
@@ -160,7 +160,7 @@ pub(crate) fn declared<R: TypeReader>(
     into: &mut Unit,
 ) -> Result<Option<(NodeId, u32)>, NoMemory>
     requires { IsReady R.types source.now into.old at }
-    ensures { ReadsFrom source.now at into.old into.new is_declaration result (λ ts. only_declaration (declaration (known_names R.types source.now into.old) depth ts)) }
+    ensures { Reads R.types source.now at into.old into.new is_declaration result (λ names ts. only_declaration (declaration names depth ts)) }
 {
     let Some((node, end)) = declaration(source, at, depth, into)? else {
         return Ok(None);
@@ -236,7 +236,7 @@ fn label<R: TypeReader>(
     into: &mut Unit,
 ) -> Result<Option<(NodeId, u32)>, NoMemory>
     requires { IsReady R.types source.now into.old at }
-    ensures { ReadsFrom source.now at into.old into.new is_statement result (label (known_names R.types source.now into.old) depth) }
+    ensures { Reads R.types source.now at into.old into.new is_statement result (λ names. label names depth) }
 {
     let Some(token) = peek(source.tokens, at) else {
         return Ok(None);
@@ -268,7 +268,7 @@ pub(crate) fn labels<R: TypeReader>(
     into: &mut Unit,
 ) -> Result<(Vec<NodeId>, u32), NoMemory>
     requires { IsReady R.types source.now into.old at }
-    ensures { ReadsInto into.old into.new result (λ r. RowReads source.now at into.new is_statement r.0.items r.1 (row (label (known_names R.types source.now into.old) depth) NoTrees)) }
+    ensures { ReadsRow R.types source.now at into.old into.new is_statement result (λ names. row (label names depth) NoTrees) }
 {
     let mut labels = Vec::new(*source.typedefs.allocator());
     let mut next = at;

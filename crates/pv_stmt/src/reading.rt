@@ -3,10 +3,9 @@ ghost use Rattle.pv_tree.specs.Syntax.{NoTrees};
 ghost use Rattle.pv_tree.specs.Tables.{tree_at, is_expression, is_item, is_statement, Is};
 ghost use Rattle.pv_decl_forms.specs.Pieces.{row};
 ghost use Rattle.pv_stmt_forms.specs.Parts.{item_in, block_behind};
-ghost use Rattle.pv_stmt_forms.specs.Statements.{statement, selection, else_part, loop, do_loop, for_loop, switch, labels_and_statement, SwitchBlocks, readers};
-ghost use Rattle.pv_expr_forms.specs.Sources.{known_names, IsReady, ReadsInto};
-ghost use Rattle.pv_decl_forms.specs.Sources.{ReadsFrom, RowReads};
-ghost use Rattle.pv_stmt.specs.Inner.{statements_within};
+ghost use Rattle.pv_stmt_forms.specs.Statements.{statement, selection, else_part, loop, do_loop, for_loop, switch, labels_and_statement, SwitchBlocks, readers, Statements};
+ghost use Rattle.pv_expr_forms.specs.Sources.{IsReady};
+ghost use Rattle.pv_decl_forms.specs.Sources.{Reads, ReadsRow};
 
 use crate::nodes::ends_open;
 use crate::parts::{condition, declared, for_head, labels, plain, returned};
@@ -28,7 +27,7 @@ pub(crate) fn statement<R: TypeReader>(
     into: &mut Unit,
 ) -> Result<Option<(NodeId, u32)>, NoMemory>
     requires { IsReady R.types source.now into.old at }
-    ensures { ReadsFrom source.now at into.old into.new is_statement result (statement (known_names R.types source.now into.old) depth) }
+    ensures { Reads R.types source.now at into.old into.new is_statement result (λ names. statement names depth) }
 {
     if depth == 0 {
         return Ok(None);
@@ -79,7 +78,7 @@ fn selection<R: TypeReader>(
     into: &mut Unit,
 ) -> Result<Option<(NodeId, u32)>, NoMemory>
     requires { IsReady R.types source.now into.old at }
-    ensures { ReadsFrom source.now at into.old into.new is_statement result (selection (known_names R.types source.now into.old) below (statements_within R.types source.now into.old below) line) }
+    ensures { Reads R.types source.now at into.old into.new is_statement result (λ names. selection names below (readers names below Statements) line) }
 {
     let Some((condition, next)) = condition(source, at, below, into)? else {
         return Ok(None);
@@ -105,8 +104,7 @@ fn chosen<R: TypeReader>(
     requires ready { IsReady R.types source.now into.old at }
     requires condition { Is into.old is_expression condition }
     requires body { Is into.old is_statement body }
-    ensures { ReadsFrom source.now at into.old into.new is_statement result
-        (else_part (statements_within R.types source.now into.old below) line (tree_at into.old.forest condition) (tree_at into.old.forest body)) }
+    ensures { Reads R.types source.now at into.old into.new is_statement result (λ names. else_part (readers names below Statements) line (tree_at into.old.forest condition) (tree_at into.old.forest body)) }
 {
     let alone = Stmt::If(condition, body);
     let Some(next) = after(source.tokens, at, Sign::Else) else {
@@ -134,7 +132,7 @@ fn while_loop<R: TypeReader>(
     into: &mut Unit,
 ) -> Result<Option<(NodeId, u32)>, NoMemory>
     requires { IsReady R.types source.now into.old at }
-    ensures { ReadsFrom source.now at into.old into.new is_statement result (loop (known_names R.types source.now into.old) below (statements_within R.types source.now into.old below) line) }
+    ensures { Reads R.types source.now at into.old into.new is_statement result (λ names. loop names below (readers names below Statements) line) }
 {
     let Some((condition, next)) = condition(source, at, below, into)? else {
         return Ok(None);
@@ -157,7 +155,7 @@ fn do_loop<R: TypeReader>(
     into: &mut Unit,
 ) -> Result<Option<(NodeId, u32)>, NoMemory>
     requires { IsReady R.types source.now into.old at }
-    ensures { ReadsFrom source.now at into.old into.new is_statement result (do_loop (known_names R.types source.now into.old) below (statements_within R.types source.now into.old below) line) }
+    ensures { Reads R.types source.now at into.old into.new is_statement result (λ names. do_loop names below (readers names below Statements) line) }
 {
     let Some((body, next)) = statement(source, at, below, into)? else {
         return Ok(None);
@@ -184,7 +182,7 @@ fn for_loop<R: TypeReader>(
     into: &mut Unit,
 ) -> Result<Option<(NodeId, u32)>, NoMemory>
     requires { IsReady R.types source.now into.old at }
-    ensures { ReadsFrom source.now at into.old into.new is_statement result (for_loop (known_names R.types source.now into.old) below (statements_within R.types source.now into.old below) line) }
+    ensures { Reads R.types source.now at into.old into.new is_statement result (λ names. for_loop names below (readers names below Statements) line) }
 {
     let Some((head, next)) = for_head(source, at, below, into)? else {
         return Ok(None);
@@ -207,7 +205,7 @@ fn switch<R: TypeReader>(
     into: &mut Unit,
 ) -> Result<Option<(NodeId, u32)>, NoMemory>
     requires { IsReady R.types source.now into.old at }
-    ensures { ReadsFrom source.now at into.old into.new is_statement result (switch (known_names R.types source.now into.old) below (readers (known_names R.types source.now into.old) below SwitchBlocks) line) }
+    ensures { Reads R.types source.now at into.old into.new is_statement result (λ names. switch names below (readers names below SwitchBlocks) line) }
 {
     let Some((value, next)) = condition(source, at, below, into)? else {
         return Ok(None);
@@ -238,7 +236,7 @@ fn braced<R: TypeReader>(
     into: &mut Unit,
 ) -> Result<Option<(NodeId, u32)>, NoMemory>
     requires { IsReady R.types source.now into.old at }
-    ensures { ReadsFrom source.now at into.old into.new is_statement result (block_behind within (known_names R.types source.now into.old) below line) }
+    ensures { Reads R.types source.now at into.old into.new is_statement result (λ names. block_behind within names below line) }
 {
     let (items, end) = items(source, at, within, below, into)?;
     block_of(source.tokens, end, within, &items, line, into)
@@ -254,7 +252,7 @@ fn items<R: TypeReader>(
     into: &mut Unit,
 ) -> Result<(Vec<NodeId>, u32), NoMemory>
     requires { IsReady R.types source.now into.old at }
-    ensures { ReadsInto into.old into.new result (λ r. RowReads source.now at into.new is_item r.0.items r.1 (row (item_in within (known_names R.types source.now into.old) depth) NoTrees)) }
+    ensures { ReadsRow R.types source.now at into.old into.new is_item result (λ names. row (item_in within names depth) NoTrees) }
 {
     let mut items = Vec::new(*source.typedefs.allocator());
     let mut next = at;
@@ -277,7 +275,7 @@ fn item<R: TypeReader>(
     into: &mut Unit,
 ) -> Result<Option<(NodeId, u32)>, NoMemory>
     requires { IsReady R.types source.now into.old at }
-    ensures { ReadsFrom source.now at into.old into.new is_item result (item_in within (known_names R.types source.now into.old) depth) }
+    ensures { Reads R.types source.now at into.old into.new is_item result (λ names. item_in within names depth) }
 {
     if begins_type(source.tokens, source.typedefs, at) {
         return declared(source, at, depth, into);
@@ -297,7 +295,7 @@ fn labelled<R: TypeReader>(
     into: &mut Unit,
 ) -> Result<Option<(NodeId, u32)>, NoMemory>
     requires { IsReady R.types source.now into.old at }
-    ensures { ReadsFrom source.now at into.old into.new is_statement result (labels_and_statement (known_names R.types source.now into.old) depth (statements_within R.types source.now into.old depth)) }
+    ensures { Reads R.types source.now at into.old into.new is_statement result (λ names. labels_and_statement names depth (readers names depth Statements)) }
 {
     let line = line_at(source.tokens, at);
     let (labels, next) = labels(source, at, depth, into)?;

@@ -1,7 +1,7 @@
 //! The names that declarators declare, and sets of typedef names that they are added to (C17 6.7.8p3).
-ghost use Rattle.std.specs.Prelude.{◌≡◌, ◌||◌, ℕ, length, OnOk, nat_eq};
+ghost use Rattle.std.specs.Prelude.{◌≡◌, ◌||◌, ℕ, OnOk, nat_eq};
 ghost use Rattle.indexmap.specs.IndexSet.{contains};
-ghost use Rattle.pv_tree.specs.Tables.{tree_at, declarator_at, trees_at, is_declaration, is_declarator, is_specifier, Is, HasList};
+ghost use Rattle.pv_tree.specs.Tables.{tree_at, declarator_at, trees_at, is_declaration, is_declarator, is_specifier, Is, IsListOf};
 ghost use Rattle.pv_tree.specs.Units.{declares, is_typedef, has_typedef, any_declares};
 ghost use Rattle.pv_stmt_forms.specs.Names.{IsBefore, names_there, is_name, declares_one};
 
@@ -60,7 +60,7 @@ fn is_typedef(unit: &Unit, n: NodeId) -> bool
 
 /// Whether `typedef` is among some specifiers.
 pub fn has_typedef(unit: &Unit, specs: ListId) -> bool
-    requires { HasList unit.now.forest (length unit.now.forest.trees) is_specifier specs }
+    requires { IsListOf unit.now is_specifier specs }
     ensures { result ≡ has_typedef (trees_at unit.now.forest specs) }
 {
     let specifiers = unit.list(specs);
@@ -99,7 +99,7 @@ fn add_declared(unit: &Unit, n: NodeId, types: &mut IndexSet<u32>) -> Result<(),
 
 /// Adds the names that init-declarators declare.
 pub fn add_all(unit: &Unit, declared: ListId, types: &mut IndexSet<u32>) -> Result<(), NoMemory>
-    requires { HasList unit.now.forest (length unit.now.forest.trees) is_declaration declared }
+    requires { IsListOf unit.now is_declaration declared }
     ensures { OnOk result ((m : ℕ) → contains nat_eq types.new m ≡ (contains nat_eq types.old m || any_declares (trees_at unit.now.forest declared) m)) }
 {
     let declarators = unit.list(declared);

@@ -2,7 +2,7 @@
 ghost use Rattle.std.specs.Prelude.{◌≡◌, ◌<◌, ◌++◌, [], ℕ, List, is_some, false, map, IfOk, IfSome, OnOk, None, length};
 ghost use Rattle.pv_types.specs.Known.{tree};
 ghost use Rattle.pv_tree.specs.Syntax.{OfInitializer, Present};
-ghost use Rattle.pv_tree.specs.Tables.{Forest, Is, HasList, HasOptional, trees_at, declaration_at, initializer_at, optional_at, is_declaration, is_declarator, is_initializer, is_specifier};
+ghost use Rattle.pv_tree.specs.Tables.{Forest, Is, trees_at, declaration_at, initializer_at, optional_at, is_declaration, is_declarator, is_initializer, is_specifier, IsListOf, IsOptionalOf};
 ghost use Rattle.pv_types.specs.Layouts.{is_complete_in};
 ghost use Rattle.pv_typed.specs.Tables.{Stored, whole_unit};
 ghost use Rattle.pv_typed.specs.TypedUnits.{object_at};
@@ -87,7 +87,7 @@ fn with_initializer(
     o: u32,
     init: Option<NodeId>,
 ) -> Result<bool, NoMemory>
-    requires init { HasOptional u.now.forest (length u.now.forest.trees) is_initializer init }
+    requires init { IsOptionalOf u.now is_initializer init }
     requires opened { IsOpen into.old s.old }
     requires object { o < length into.old.objects }
     ensures opened { IfOk result (OpenOn into.new s.new) }
@@ -115,7 +115,7 @@ fn block_object(
     line: u32,
     init: Option<NodeId>,
 ) -> Result<Option<u32>, NoMemory>
-    requires init { HasOptional u.now.forest (length u.now.forest.trees) is_initializer init }
+    requires init { IsOptionalOf u.now is_initializer init }
     requires opened { IsOpen into.old s.old }
     requires known { made.0 < length into.old.known.terms }
     ensures opened { IfOk result (λ r. IfSome r (λ o. IsOpen into.new s.new)) }
@@ -165,7 +165,7 @@ fn block_declarator(
     all: &mut Vec<Reached>,
 ) -> Result<bool, NoMemory>
     requires node { Is u.now is_declarator d }
-    requires init { HasOptional u.now.forest (length u.now.forest.trees) is_initializer init }
+    requires init { IsOptionalOf u.now is_initializer init }
     requires opened { IsOpen into.old s.old }
     requires known { base.0 < length into.old.known.terms }
     requires there { AreReached into.old all.old.items }
@@ -235,7 +235,7 @@ fn block_declarators(
     list: ListId,
     all: &mut Vec<Reached>,
 ) -> Result<bool, NoMemory>
-    requires list { HasList u.now.forest (length u.now.forest.trees) is_declaration list }
+    requires list { IsListOf u.now is_declaration list }
     requires opened { IsOpen into.old s.old }
     requires known { base.0 < length into.old.known.terms }
     requires none { all.old.items ≡ [] }
@@ -261,7 +261,7 @@ fn specifiers_alone(
     into: &mut TypedUnit,
     specs: ListId,
 ) -> Result<bool, NoMemory>
-    requires specs { HasList u.now.forest (length u.now.forest.trees) is_specifier specs }
+    requires specs { IsListOf u.now is_specifier specs }
     requires opened { IsOpen into.old s.old }
     ensures opened { IfOk result (OpenOn into.new s.new) }
     ensures goes { IfOk result (GoesOn into.old into.new) }
@@ -285,7 +285,7 @@ fn block_alone(
     into: &mut TypedUnit,
     specs: ListId,
 ) -> Result<bool, NoMemory>
-    requires specs { HasList u.now.forest (length u.now.forest.trees) is_specifier specs }
+    requires specs { IsListOf u.now is_specifier specs }
     requires opened { IsOpen into.old s.old }
     ensures opened { IfOk result (OpenOn into.new s.new) }
     ensures goes { IfOk result (GoesOn into.old into.new) }
@@ -313,8 +313,8 @@ fn block_declared(
     declared: ListId,
     all: &mut Vec<Reached>,
 ) -> Result<bool, NoMemory>
-    requires specs { HasList u.now.forest (length u.now.forest.trees) is_specifier specs }
-    requires declared { HasList u.now.forest (length u.now.forest.trees) is_declaration declared }
+    requires specs { IsListOf u.now is_specifier specs }
+    requires declared { IsListOf u.now is_declaration declared }
     requires opened { IsOpen into.old s.old }
     requires none { all.old.items ≡ [] }
     ensures opened { IfOk result (OpenOn into.new s.new) }

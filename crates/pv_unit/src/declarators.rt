@@ -1,6 +1,6 @@
 //! Specifiers and declarators of declarations (C17 6.7): the storage class and the type, the name and its type.
 ghost use Rattle.std.specs.Prelude.{◌≡◌, ◌<◌, ◌||◌, nat_lt, ℕ, Bool, List, IfOk, IfSome, OnOk, Some, None, false, length};
-ghost use Rattle.pv_tree.specs.Tables.{Is, HasList, tree_at, specifier_at, declarator_at, trees_at, is_declarator, is_specifier};
+ghost use Rattle.pv_tree.specs.Tables.{Is, tree_at, specifier_at, declarator_at, trees_at, is_declarator, is_specifier, IsListOf};
 ghost use Rattle.pv_tree.specs.Syntax.{Then, NoTrees};
 ghost use Rattle.pv_types.specs.Known.{Known, tree};
 ghost use Rattle.pv_check.specs.Stepping.{step_in, steps_in};
@@ -60,7 +60,7 @@ pub(crate) fn specified(
     into: &mut TypedUnit,
     list: ListId,
 ) -> Result<Option<Specified>, NoMemory>
-    requires list { HasList u.now.forest (length u.now.forest.trees) is_specifier list }
+    requires list { IsListOf u.now is_specifier list }
     requires opened { IsOpen into.old s.old }
     ensures opened { IfOk result (λ r. IfSome r (λ x. IsOpen into.new s.new)) }
     ensures goes { IfOk result (λ r. IfSome r (λ x. Goes into.old into.new)) }
@@ -107,7 +107,7 @@ pub(crate) fn type_declared(
 
 /// Whether a structure or a union with a tag is among the specifiers, with its members.
 fn has_list(u: &Unit, list: ListId) -> bool
-    requires { HasList u.now.forest (length u.now.forest.trees) is_specifier list }
+    requires { IsListOf u.now is_specifier list }
     ensures { result ≡ has_list (trees_at u.now.forest list) }
 {
     let nodes = u.list(list);
@@ -149,7 +149,7 @@ fn is_listed(u: &Unit, n: NodeId) -> bool
 
 /// The one tag specifier, if there is no other specifier.
 pub(crate) fn only_tag(u: &Unit, list: ListId) -> Option<(Word, u32)>
-    requires { HasList u.now.forest (length u.now.forest.trees) is_specifier list }
+    requires { IsListOf u.now is_specifier list }
     ensures { result ≡ only_tag (trees_at u.now.forest list) }
 {
     let nodes = u.list(list);
@@ -226,7 +226,7 @@ pub(crate) fn tag_alone(
 /// Whether specifiers without a declarator declare a tag or enumerators, or complete a tag (C17 6.7p2), where the
 /// innermost scope had so many names and tags before them.
 pub(crate) fn tags_alone(u: &Unit, s: &Scopes, into: &TypedUnit, list: ListId, before: u64) -> bool
-    requires list { HasList u.now.forest (length u.now.forest.trees) is_specifier list }
+    requires list { IsListOf u.now is_specifier list }
     requires opened { IsOpen into.now s.now }
     ensures { (texts : List (List ℕ)) → result ≡ (nat_lt before (bound_in (innermost_scope (state_of texts false s.now into.now).scopes)) || has_list (trees_at u.now.forest list)) }
 {

@@ -1,6 +1,6 @@
 //! Function definitions and external declarations (C17 6.9, 6.9.1).
 ghost use Rattle.std.specs.Prelude.{◌≡◌, ◌<◌, ◌+◌, ◌++◌, ◌∷◌, [], ℕ, List, false, length, IfOk, IfSome, OnOk, Some};
-ghost use Rattle.pv_tree.specs.Tables.{Is, HasList, declaration_at, declarator_at, statement_at as statement_of, trees_at, is_declarator, is_declaration, is_item, is_specifier, is_statement, tree_at};
+ghost use Rattle.pv_tree.specs.Tables.{Is, HasList, declaration_at, declarator_at, statement_at as statement_of, trees_at, is_declarator, is_declaration, is_item, is_specifier, is_statement, tree_at, IsListOf};
 ghost use Rattle.pv_tree.specs.Syntax.{is_external};
 ghost use Rattle.pv_types.specs.Known.{tree};
 ghost use Rattle.pv_typed.specs.Known.{Each};
@@ -287,7 +287,7 @@ fn definition(
     outer: &mut Outer,
     x: FunctionParts,
 ) -> Result<bool, NoMemory>
-    requires specs { HasList u.now.forest (length u.now.forest.trees) is_specifier x.specs }
+    requires specs { IsListOf u.now is_specifier x.specs }
     requires declarator { Is u.now is_declarator x.declarator }
     requires block { Is u.now is_statement x.block }
     requires opened { IsOpen into.old s.old }

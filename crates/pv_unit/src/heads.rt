@@ -1,6 +1,6 @@
 //! Heads of function definitions (C17 6.9.1).
 ghost use Rattle.std.specs.Prelude.{◌≡◌, ◌<◌, ◌&&◌, ◌||◌, not, ℕ, List, IfOk, IfSome, OnOk, Some, None, true, false, length, is_some};
-ghost use Rattle.pv_tree.specs.Tables.{Is, HasList, declarator_at, trees_at, is_declarator, is_specifier};
+ghost use Rattle.pv_tree.specs.Tables.{Is, declarator_at, trees_at, is_declarator, is_specifier, IsListOf};
 ghost use Rattle.pv_types.specs.Known.{tree, env};
 ghost use Rattle.pv_types.specs.Layouts.{is_complete_in};
 ghost use Rattle.pv_check.specs.Derivations.{Signature as WholeSignature, derived_type};
@@ -323,7 +323,7 @@ pub(crate) fn head(
     specs: ListId,
     d: NodeId,
 ) -> Result<Option<Heading>, NoMemory>
-    requires specs { HasList u.now.forest (length u.now.forest.trees) is_specifier specs }
+    requires specs { IsListOf u.now is_specifier specs }
     requires node { Is u.now is_declarator d }
     requires opened { IsOpen into.old s.old }
     requires entities { AreThere into.old outer.old.entities }

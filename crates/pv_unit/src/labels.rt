@@ -1,6 +1,6 @@
 //! Labels of a switch (C17 6.8.1, 6.8.4.2).
 ghost use Rattle.std.specs.Prelude.{false, ◌≡◌, ◌<◌, ◌++◌, ◌∷◌, [], ◌≤◌, ℕ, List, if◌then◌else◌, not, length, map, drop, IfOk, OnOk, IfSome};
-ghost use Rattle.pv_tree.specs.Tables.{statement_at as statement_of, trees_at, expression_at as expression_of, is_expression, is_statement, Is, HasList};
+ghost use Rattle.pv_tree.specs.Tables.{statement_at as statement_of, trees_at, expression_at as expression_of, is_expression, is_statement, Is, IsListOf};
 ghost use Rattle.pv_typed.specs.NodeTrees.{statement_at, expression_at, IsExpression, IsStatement};
 ghost use Rattle.pv_check.specs.Open.{state_of, IsOpen};
 ghost use Rattle.pv_typed.specs.Constants.{and_then};
@@ -217,7 +217,7 @@ pub(crate) fn all_labels(
     list: ListId,
     labels: &mut Labels,
 ) -> Result<bool, NoMemory>
-    requires list { HasList u.now.forest (length u.now.forest.trees) is_statement list }
+    requires list { IsListOf u.now is_statement list }
     requires opened { IsOpen into.old s.old }
     requires same { HasKeys labels.old }
     ensures same { OnOk result (HasKeys labels.new) }

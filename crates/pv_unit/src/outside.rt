@@ -1,7 +1,7 @@
 //! Declarations at file scope (C17 6.7, 6.9.2).
 ghost use Rattle.std.specs.Prelude.{◌≡◌, ◌<◌, IfOk, OnOk, None, length};
 ghost use Rattle.pv_types.specs.Known.{tree};
-ghost use Rattle.pv_tree.specs.Tables.{Is, HasList, HasOptional, tree_at, trees_at, declaration_at, initializer_at, is_declaration, is_declarator, is_initializer, is_specifier};
+ghost use Rattle.pv_tree.specs.Tables.{Is, tree_at, trees_at, declaration_at, initializer_at, is_declaration, is_declarator, is_initializer, is_specifier, IsListOf, IsOptionalOf};
 ghost use Rattle.pv_check.specs.Open.{IsOpen, Goes};
 ghost use Rattle.pv_typed.specs.Constants.{and_then};
 ghost use Rattle.pv_unit.specs.Declarations.{object_initialized, given_entity, file_init_declarator, file_declarators, only_tag, file_alone, file_declaration};
@@ -96,7 +96,7 @@ fn variable_entity(
     d: DeclaredType,
     init: Option<NodeId>,
 ) -> Result<bool, NoMemory>
-    requires init { HasOptional u.now.forest (length u.now.forest.trees) is_initializer init }
+    requires init { IsOptionalOf u.now is_initializer init }
     requires opened { IsOpen into.old s.old }
     requires known { d.t.0 < length into.old.known.terms }
     requires entities { AreThere into.old outer.old.entities }
@@ -159,7 +159,7 @@ fn entity_declared(
     d: DeclaredType,
     init: Option<NodeId>,
 ) -> Result<bool, NoMemory>
-    requires init { HasOptional u.now.forest (length u.now.forest.trees) is_initializer init }
+    requires init { IsOptionalOf u.now is_initializer init }
     requires opened { IsOpen into.old s.old }
     requires known { d.t.0 < length into.old.known.terms }
     requires entities { AreThere into.old outer.old.entities }
@@ -189,7 +189,7 @@ fn file_declarator(
     init: Option<NodeId>,
 ) -> Result<bool, NoMemory>
     requires node { Is u.now is_declarator d }
-    requires init { HasOptional u.now.forest (length u.now.forest.trees) is_initializer init }
+    requires init { IsOptionalOf u.now is_initializer init }
     requires opened { IsOpen into.old s.old }
     requires known { x.t.0 < length into.old.known.terms }
     requires entities { AreThere into.old outer.old.entities }
@@ -250,7 +250,7 @@ fn file_declarators(
     x: Specified,
     list: ListId,
 ) -> Result<bool, NoMemory>
-    requires list { HasList u.now.forest (length u.now.forest.trees) is_declaration list }
+    requires list { IsListOf u.now is_declaration list }
     requires opened { IsOpen into.old s.old }
     requires known { x.t.0 < length into.old.known.terms }
     requires entities { AreThere into.old outer.old.entities }
@@ -277,7 +277,7 @@ fn specifiers_alone(
     outer: &Outer,
     specs: ListId,
 ) -> Result<bool, NoMemory>
-    requires specs { HasList u.now.forest (length u.now.forest.trees) is_specifier specs }
+    requires specs { IsListOf u.now is_specifier specs }
     requires opened { IsOpen into.old s.old }
     requires entities { AreThere into.old outer.now.entities }
     ensures opened { IfOk result (OpenOn into.new s.new) }
@@ -301,7 +301,7 @@ fn file_alone(
     outer: &Outer,
     specs: ListId,
 ) -> Result<bool, NoMemory>
-    requires specs { HasList u.now.forest (length u.now.forest.trees) is_specifier specs }
+    requires specs { IsListOf u.now is_specifier specs }
     requires opened { IsOpen into.old s.old }
     requires entities { AreThere into.old outer.now.entities }
     ensures opened { IfOk result (OpenOn into.new s.new) }
@@ -331,8 +331,8 @@ fn file_declared(
     specs: ListId,
     declared: ListId,
 ) -> Result<bool, NoMemory>
-    requires specs { HasList u.now.forest (length u.now.forest.trees) is_specifier specs }
-    requires declared { HasList u.now.forest (length u.now.forest.trees) is_declaration declared }
+    requires specs { IsListOf u.now is_specifier specs }
+    requires declared { IsListOf u.now is_declaration declared }
     requires opened { IsOpen into.old s.old }
     requires entities { AreThere into.old outer.old.entities }
     ensures opened { IfOk result (OpenOn into.new s.new) }

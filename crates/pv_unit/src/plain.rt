@@ -1,6 +1,6 @@
 //! Statements that hold no statements (C17 6.8.3, 6.8.6), and the declaration of a `for`.
 ghost use Rattle.std.specs.Prelude.{false, ◌≡◌, [], ◌<◌, ℕ, List, length, IfOk, IfSome, OnOk};
-ghost use Rattle.pv_tree.specs.Tables.{statement_at as statement_of, declaration_at, tree_at, optional_at, is_expression, is_statement, is_declaration, Is, HasOptional};
+ghost use Rattle.pv_tree.specs.Tables.{statement_at as statement_of, declaration_at, tree_at, optional_at, is_expression, is_statement, is_declaration, Is, IsOptionalOf};
 ghost use Rattle.pv_tree.specs.Syntax.{ExpressionStatement, Break, Continue, Return};
 ghost use Rattle.pv_tree.specs.TreeLines.{tree_line};
 ghost use Rattle.pv_typed.specs.NodeTrees.{statement_at, IsStatement};
@@ -64,7 +64,7 @@ pub(crate) fn expression_statement(
     a: Option<NodeId>,
 ) -> Result<Option<NodeId>, NoMemory>
     requires node { Is u.now is_statement n }
-    requires a { HasOptional u.now.forest (length u.now.forest.trees) is_expression a }
+    requires a { IsOptionalOf u.now is_expression a }
     requires is { statement_of u.now.forest n ≡ ExpressionStatement (tree_line (tree_at u.now.forest n)) (optional_at u.now.forest a) }
     requires opened { IsOpen into.old s.old }
     requires known { w.result.0 < length into.old.known.terms }
@@ -140,7 +140,7 @@ pub(crate) fn return_statement(
     a: Option<NodeId>,
 ) -> Result<Option<NodeId>, NoMemory>
     requires node { Is u.now is_statement n }
-    requires a { HasOptional u.now.forest (length u.now.forest.trees) is_expression a }
+    requires a { IsOptionalOf u.now is_expression a }
     requires is { statement_of u.now.forest n ≡ Return (tree_line (tree_at u.now.forest n)) (optional_at u.now.forest a) }
     requires opened { IsOpen into.old s.old }
     requires known { w.result.0 < length into.old.known.terms }

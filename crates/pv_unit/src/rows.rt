@@ -1,6 +1,6 @@
 //! Parts of statements that hold no statements (C17 6.8).
 ghost use Rattle.std.specs.Prelude.{false, ◌≡◌, ◌<◌, ◌&&◌, ◌==◌, ℕ, List, length, IfOk, OnOk, IfSome, Some};
-ghost use Rattle.pv_tree.specs.Tables.{expression_at as expression_of, statement_at as statement_of, tree_at, optional_at, is_expression, is_statement, Is, HasOptional};
+ghost use Rattle.pv_tree.specs.Tables.{expression_at as expression_of, statement_at as statement_of, tree_at, optional_at, is_expression, is_statement, Is, IsOptionalOf};
 ghost use Rattle.pv_types.specs.Known.{tree};
 ghost use Rattle.pv_typed.specs.TypedTree.{type_of};
 ghost use Rattle.pv_typed.specs.NodeTrees.{expression_at, IsExpression, IsStatement};
@@ -83,7 +83,7 @@ pub(crate) fn optional_value(
     into: &mut TypedUnit,
     a: Option<NodeId>,
 ) -> Result<Option<Option<NodeId>>, NoMemory>
-    requires node { HasOptional u.now.forest (length u.now.forest.trees) is_expression a }
+    requires node { IsOptionalOf u.now is_expression a }
     requires opened { IsOpen into.old s.old }
     ensures there { IfOk result (λ r. IfSome r (IsOptional into.new)) }
     ensures moves { IfOk result (λ r. IfSome r (λ n. Moves into.old s.old into.new s.new)) }
@@ -106,7 +106,7 @@ pub(crate) fn optional_condition(
     into: &mut TypedUnit,
     a: Option<NodeId>,
 ) -> Result<Option<Option<NodeId>>, NoMemory>
-    requires node { HasOptional u.now.forest (length u.now.forest.trees) is_expression a }
+    requires node { IsOptionalOf u.now is_expression a }
     requires opened { IsOpen into.old s.old }
     ensures there { IfOk result (λ r. IfSome r (IsOptional into.new)) }
     ensures moves { IfOk result (λ r. IfSome r (λ n. Moves into.old s.old into.new s.new)) }

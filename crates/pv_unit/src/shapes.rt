@@ -2,7 +2,7 @@
 ghost use Rattle.std.specs.Prelude.{◌≡◌, ◌<◌, length, option_map, All};
 ghost use Rattle.pv_types.specs.Known.{tree};
 ghost use Rattle.pv_types.specs.Formed.{completions};
-ghost use Rattle.pv_tree.specs.Tables.{expression_at, initializer_at, trees_at, is_expression, is_initializer, Is, HasList};
+ghost use Rattle.pv_tree.specs.Tables.{expression_at, initializer_at, trees_at, is_expression, is_initializer, Is, IsListOf};
 ghost use Rattle.pv_unit.specs.Initializers.{only_expression, is_zero, filling, single_shape, list_shape, shape_of};
 ghost use Rattle.pv_unit.specs.InitializerParts.{expression_shape, begins_deep};
 ghost use Rattle.pv_unit.specs.Shapes.{shape_in, IsShape, IsShapeIf, IsExpressionIf};
@@ -30,7 +30,7 @@ pub(crate) enum Shape {
 
 /// The one expression of a list of initializers, if it has no more and no braces.
 fn only(u: &Unit, inits: ListId) -> Option<NodeId>
-    requires { HasList u.now.forest (length u.now.forest.trees) is_initializer inits }
+    requires { IsListOf u.now is_initializer inits }
     ensures expression { option_map (expression_at u.now.forest) result ≡ only_expression (trees_at u.now.forest inits) }
     ensures is { IsExpressionIf u.now result }
 {
@@ -170,7 +170,7 @@ fn single_shape(types: &Types, u: &Unit, part: Subobject, a: NodeId) -> Shape
 fn list_shape(types: &Types, u: &Unit, part: Subobject, inits: ListId) -> Shape
     requires sized { AreSized types.now }
     requires part { IsPart types.now part }
-    requires list { HasList u.now.forest (length u.now.forest.trees) is_initializer inits }
+    requires list { IsListOf u.now is_initializer inits }
     ensures shape { shape_in u.now.forest result ≡ list_shape (completions types.now) (part_of types.now part) (only_expression (trees_at u.now.forest inits)) }
     ensures is { IsShape u.now result }
 {

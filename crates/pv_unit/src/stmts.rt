@@ -1,6 +1,6 @@
 //! Typing statements (C17 6.8).
 ghost use Rattle.std.specs.Prelude.{false, ◌≡◌, [], ◌<◌, true, length, IfOk, IfSome, OnOk};
-ghost use Rattle.pv_tree.specs.Tables.{expression_at as expression_of, statement_at as statement_of, tree_at, trees_at, is_expression, is_statement, is_declaration, is_item, Is, HasList, Has, HasOptional};
+ghost use Rattle.pv_tree.specs.Tables.{expression_at as expression_of, statement_at as statement_of, tree_at, trees_at, is_expression, is_statement, is_declaration, is_item, Is, HasList, Has, IsOptionalOf};
 ghost use Rattle.pv_tree.specs.Syntax.{Block, If, IfElse, While, DoWhile, Switch, Labelled};
 ghost use Rattle.pv_tree.specs.TreeLines.{tree_line};
 ghost use Rattle.pv_typed.specs.NodeTrees.{statement_at, IsStatement};
@@ -216,9 +216,9 @@ fn for_statement(
     body: NodeId,
 ) -> Result<Option<NodeId>, NoMemory>
     requires node { Is u.now is_statement n }
-    requires first { HasOptional u.now.forest (length u.now.forest.trees) is_expression first }
-    requires a { HasOptional u.now.forest (length u.now.forest.trees) is_expression a }
-    requires step { HasOptional u.now.forest (length u.now.forest.trees) is_expression step }
+    requires first { IsOptionalOf u.now is_expression first }
+    requires a { IsOptionalOf u.now is_expression a }
+    requires step { IsOptionalOf u.now is_expression step }
     requires body { Has u.now.forest n.0 is_statement body }
     requires is { IsFor u.now.forest n first a step body }
     requires opened { IsOpen into.old s.old }
@@ -270,8 +270,8 @@ fn for_declaration(
 ) -> Result<Option<NodeId>, NoMemory>
     requires node { Is u.now is_statement n }
     requires declaration { Is u.now is_declaration declaration }
-    requires a { HasOptional u.now.forest (length u.now.forest.trees) is_expression a }
-    requires step { HasOptional u.now.forest (length u.now.forest.trees) is_expression step }
+    requires a { IsOptionalOf u.now is_expression a }
+    requires step { IsOptionalOf u.now is_expression step }
     requires body { Has u.now.forest n.0 is_statement body }
     requires is { IsForDeclaration u.now.forest n declaration a step body }
     requires opened { IsOpen into.old s.old }
