@@ -15,7 +15,7 @@ ghost use Rattle.pv_world.specs.Worths.{undefined_behaviour};
 ghost use Rattle.pv_world.specs.Telling.{telling, blame_of, fault_of, verdict_of};
 ghost use Rattle.pv_world.specs.Accesses.{is_inexact};
 ghost use Rattle.pv_world.specs.Preconditions.{IsStored};
-ghost use Rattle.pv_world.specs.Coming.{Came, Did, Faulted, coming_of, worth_of, wrong_for, IsMadeWorth};
+ghost use Rattle.pv_world.specs.Coming.{Came, Faulted, coming_of, worth_of, wrong_for, IsMadeWorth, DidAndTold};
 ghost use Rattle.pv_watch.specs.declared.event.What.{What as Told};
 ghost use Rattle.pv_eval.specs.TypeForms.{lvalue, shape_of};
 ghost use Rattle.pv_eval.specs.Sizes.{setting_of, IsComplete};
@@ -127,7 +127,7 @@ pub(crate) fn read_from(
     requires complete { IsComplete unit.now.known l }
     requires made { IsMadeIn world.old.memory.table p.prov }
     requires some { 1 ≤ length journal.old }
-    ensures did { Did worth_of (reads_from (setting_of unit.now) (lvalue (setting_of unit.now) (tree unit.now.known l.t.0)) p (rivals (top journal.old))) result world.old world.new told.old.items told.new.items }
+    ensures did { DidAndTold worth_of (reads_from (setting_of unit.now) (lvalue (setting_of unit.now) (tree unit.now.known l.t.0)) p (rivals (top journal.old))) result world.old world.new told.old told.new }
     ensures noted { OnOk result (journal.new ≡ with_access (access_of p.address l.size false) (top journal.old) ∷ below journal.old) }
 {
     let align = align_of(unit.types(), l.t);
@@ -260,7 +260,7 @@ pub(crate) fn write_to(
     requires value_made { IsMadeWorth world.old.memory.table (worth_of v) }
     requires made { IsMadeIn world.old.memory.table p.prov }
     requires some { 1 ≤ length journal.old }
-    ensures did { Did worth_of (λ w. writes_to (setting_of unit.now) (lvalue (setting_of unit.now) (tree unit.now.known l.t.0)) p from (rivals (top journal.old)) w (worth_of v)) result world.old world.new told.old.items told.new.items }
+    ensures did { DidAndTold worth_of (λ w. writes_to (setting_of unit.now) (lvalue (setting_of unit.now) (tree unit.now.known l.t.0)) p from (rivals (top journal.old)) w (worth_of v)) result world.old world.new told.old told.new }
     ensures noted { OnOk result (journal.new ≡ with_access (access_of p.address l.size true) (top journal.old) ∷ below journal.old) }
 {
     let align = align_of(unit.types(), l.t);

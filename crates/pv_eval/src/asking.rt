@@ -15,7 +15,7 @@ ghost use Rattle.pv_libc.specs.Calls.{reply_to_call, output};
 ghost use Rattle.pv_libc.specs.Makings.{AreLive, IsLiveIfMade, UnlessNoMemory as UnlessSpent};
 ghost use Rattle.pv_world.specs.Worlds.{World as WorldView, Worth};
 ghost use Rattle.pv_world.specs.Worths.{value_of};
-ghost use Rattle.pv_world.specs.Coming.{Did, worth_of};
+ghost use Rattle.pv_world.specs.Coming.{worth_of, DidAndTold, Tells};
 ghost use Rattle.pv_eval.specs.States.{Setting, Res};
 ghost use Rattle.pv_eval.specs.Acting.{after_doing};
 ghost use Rattle.pv_eval.specs.Arguments.{argument_shape, shape_to};
@@ -122,7 +122,7 @@ fn arguments(
 /// What happened within a call is told.
 fn tell_note(told: &mut Vec<What>, memory: &Memory, note: Note) -> Result<(), NoMemory>
     requires { IsLiveIfMade memory.now.table.instances note }
-    ensures { OnOk result (told.new.items ≡ told.old.items ++ noted_as memory.now.table note) }
+    ensures { OnOk result (Tells told.old told.new (noted_as memory.now.table note)) }
 {
     match note {
         Note::Made(i) => tell_made(told, memory, i),
@@ -136,7 +136,7 @@ fn tell_note(told: &mut Vec<What>, memory: &Memory, note: Note) -> Result<(), No
 /// The same of all that happened, in order.
 fn tell_notes(told: &mut Vec<What>, memory: &Memory, notes: &[Note]) -> Result<(), NoMemory>
     requires { AreLive memory.now notes.now }
-    ensures { OnOk result (told.new.items ≡ told.old.items ++ all_noted memory.now.table notes.now) }
+    ensures { OnOk result (Tells told.old told.new (all_noted memory.now.table notes.now)) }
 {
     for i in 0..notes.len() {
         tell_note(told, memory, notes[i])?;
@@ -172,7 +172,7 @@ fn replied(
     reply: Result<Reply, Stop>,
     blame: Option<Blame>,
 ) -> Result<Got, WorldFailure>
-    ensures { (w : WorldView) → Did worth_of (come_to blame reply) result w w told.old.items told.new.items }
+    ensures { (w : WorldView) → DidAndTold worth_of (come_to blame reply) result w w told.old told.new }
 {
     match reply {
         Ok(Reply::Nothing) => Ok(Got::Nothing),

@@ -2,7 +2,7 @@
 ghost use Rattle.std.specs.Prelude.{◌≡◌, ◌<◌, length, IfOk, IsTrue, Some};
 ghost use Rattle.pv_types.specs.Known.{tree};
 ghost use Rattle.pv_typed.specs.TypedTree.{is_function};
-ghost use Rattle.pv_world.specs.Coming.{Did, worth_of};
+ghost use Rattle.pv_world.specs.Coming.{worth_of, DidAndTold};
 ghost use Rattle.pv_eval.specs.Callees.{may_call};
 ghost use Rattle.pv_eval.specs.Moments.{by_number};
 ghost use Rattle.pv_eval.specs.Runnable.{IsRunnable};
@@ -60,7 +60,7 @@ pub(crate) fn find(
     told: &mut Vec<What>,
 ) -> Result<u32, WorldFailure>
     requires runnable { IsRunnable unit.now }
-    ensures did { Did by_number (does (setting_of unit.now) (Finds (pointed_to (tree unit.now.known t.0)) (worth_of v.now))) result world.old world.new told.old.items told.new.items }
+    ensures did { DidAndTold by_number (does (setting_of unit.now) (Finds (pointed_to (tree unit.now.known t.0)) (worth_of v.now))) result world.old world.new told.old told.new }
     ensures known { IfOk result (λ f. f < length unit.now.functions) }
 {
     if !world.knows(v) {

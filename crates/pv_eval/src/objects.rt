@@ -8,7 +8,7 @@ ghost use Rattle.pv_world.specs.Worlds.{World as WorldView};
 ghost use Rattle.pv_world.specs.Objects.{instance_of, put_at, base_in, makes_object, object_request};
 ghost use Rattle.pv_world.specs.Preconditions.{HasRoom, HasSizeOf, IsStored};
 ghost use Rattle.pv_world.specs.Accesses.{mark_of, stored_as};
-ghost use Rattle.pv_world.specs.Coming.{Came, CameMade, Did, Seen, no_worth, worth_of, IsMadeWorth};
+ghost use Rattle.pv_world.specs.Coming.{Came, CameMade, Did, Seen, no_worth, worth_of, IsMadeWorth, DidAndTold};
 ghost use Rattle.pv_eval.specs.TypeForms.{lvalue, is_constant};
 ghost use Rattle.pv_eval.specs.Sizes.{setting_of, size_in};
 ghost use Rattle.pv_eval.specs.Objects.{heap_name};
@@ -70,7 +70,7 @@ fn make_sized(
     requires name { text_of unit.now.names x.name ≢ codes "@heap" }
     requires some { 1 ≤ size }
     requires aligned { 1 ≤ align }
-    ensures { Did no_worth (makes_object o x.lasting (object_request x.name (text_of unit.now.names x.name) size align (is_constant (tree unit.now.known x.t.0)))) result world.old world.new told.old.items told.new.items }
+    ensures { DidAndTold no_worth (makes_object o x.lasting (object_request x.name (text_of unit.now.names x.name) size align (is_constant (tree unit.now.known x.t.0)))) result world.old world.new told.old told.new }
 {
     let constant = is_constant(unit.types(), x.t);
     let names = unit.names();
@@ -89,7 +89,7 @@ pub(crate) fn make(
 ) -> Result<(), WorldFailure>
     requires runnable { IsRunnable unit.now }
     requires named { o < length unit.now.objects }
-    ensures { Did no_worth (does (setting_of unit.now) (Makes o)) result world.old world.new told.old.items told.new.items }
+    ensures { DidAndTold no_worth (does (setting_of unit.now) (Makes o)) result world.old world.new told.old told.new }
 {
     let x = unit.object(o);
     let Some(l) = measured(unit.types(), x.t) else {
@@ -111,7 +111,7 @@ pub(crate) fn make_function(
 ) -> Result<(), WorldFailure>
     requires runnable { IsRunnable unit.now }
     requires named { f < length unit.now.functions }
-    ensures { Did no_worth (does (setting_of unit.now) (MakesFunction f)) result world.old world.new told.old.items told.new.items }
+    ensures { DidAndTold no_worth (does (setting_of unit.now) (MakesFunction f)) result world.old world.new told.old told.new }
 {
     let name = unit.function(f).name;
     if is_heap_name(unit, name) {
@@ -132,7 +132,7 @@ pub(crate) fn make_literal(
 ) -> Result<(), WorldFailure>
     requires runnable { IsRunnable unit.now }
     requires named { l < length unit.now.literals }
-    ensures { Did no_worth (does (setting_of unit.now) (MakesLiteral l)) result world.old world.new told.old.items told.new.items }
+    ensures { DidAndTold no_worth (does (setting_of unit.now) (MakesLiteral l)) result world.old world.new told.old told.new }
 {
     let bytes = unit.literal(l);
     if bytes.is_empty() {
@@ -152,7 +152,7 @@ pub(crate) fn finish(
     told: &mut Vec<What>,
 ) -> Result<(), WorldFailure>
     requires named { o < length unit.now.objects }
-    ensures { Did no_worth (does (setting_of unit.now) (Ends o)) result world.old world.new told.old.items told.new.items }
+    ensures { DidAndTold no_worth (does (setting_of unit.now) (Ends o)) result world.old world.new told.old told.new }
 {
     let lasting = unit.object(o).lasting;
     let i = world.instance(o, lasting);

@@ -6,7 +6,7 @@ ghost use Rattle.pv_typed.specs.NodeTrees.{expression_at, IsExpression};
 ghost use Rattle.pv_seq.specs.Sequencing.{with_access, rivals};
 ghost use Rattle.pv_seq.specs.Rivals.{top, below};
 ghost use Rattle.pv_world.specs.Worths.{pointer_of};
-ghost use Rattle.pv_world.specs.Coming.{Did, worth_of};
+ghost use Rattle.pv_world.specs.Coming.{worth_of, DidAndTold};
 ghost use Rattle.pv_eval.specs.TypeForms.{lvalue};
 ghost use Rattle.pv_eval.specs.Sizes.{setting_of, IsComplete};
 ghost use Rattle.pv_eval.specs.Within.{lvalue_in};
@@ -40,7 +40,7 @@ fn read_known(
     requires known { AreKnown unit.now }
     requires complete { IsComplete unit.now.known l }
     requires some { 1 ≤ length journal.old }
-    ensures did { Did worth_of (does (setting_of unit.now) (Reads (lvalue_in unit.now l.t) (worth_of place.now) (rivals (top journal.old)))) result world.old world.new told.old.items told.new.items }
+    ensures did { DidAndTold worth_of (does (setting_of unit.now) (Reads (lvalue_in unit.now l.t) (worth_of place.now) (rivals (top journal.old)))) result world.old world.new told.old told.new }
     ensures noted { OnOk result (journal.new ≡ with_access (access_to (lvalue_in unit.now l.t) (pointer_of (worth_of place.now)) false) (top journal.old) ∷ below journal.old) }
 {
     if world.knows(place) {
@@ -62,7 +62,7 @@ fn read_place(
 ) -> Result<Got, WorldFailure>
     requires known { AreKnown unit.now }
     requires some { 1 ≤ length journal.old }
-    ensures did { Did worth_of (does (setting_of unit.now) (Reads (lvalue_in unit.now t) (worth_of place.now) (rivals (top journal.old)))) result world.old world.new told.old.items told.new.items }
+    ensures did { DidAndTold worth_of (does (setting_of unit.now) (Reads (lvalue_in unit.now t) (worth_of place.now) (rivals (top journal.old)))) result world.old world.new told.old told.new }
     ensures noted { OnOk result (journal.new ≡ with_access (access_to (lvalue_in unit.now t) (pointer_of (worth_of place.now)) false) (top journal.old) ∷ below journal.old) }
 {
     match measured(unit.types(), t) {
@@ -86,7 +86,7 @@ fn write_known(
     requires known { AreKnown unit.now }
     requires complete { IsComplete unit.now.known l }
     requires some { 1 ≤ length journal.old }
-    ensures did { Did worth_of (does (setting_of unit.now) (Writes (lvalue_in unit.now l.t) (worth_of place.now) (worth_of v) from (rivals (top journal.old)))) result world.old world.new told.old.items told.new.items }
+    ensures did { DidAndTold worth_of (does (setting_of unit.now) (Writes (lvalue_in unit.now l.t) (worth_of place.now) (worth_of v) from (rivals (top journal.old)))) result world.old world.new told.old told.new }
     ensures noted { OnOk result (journal.new ≡ with_access (access_to (lvalue_in unit.now l.t) (pointer_of (worth_of place.now)) true) (top journal.old) ∷ below journal.old) }
 {
     if world.can_write(shape(unit.types(), l.t), l.size, place, &v) {
@@ -120,7 +120,7 @@ fn write_place(
 ) -> Result<Got, WorldFailure>
     requires known { AreKnown unit.now }
     requires some { 1 ≤ length journal.old }
-    ensures did { Did worth_of (does (setting_of unit.now) (Writes (lvalue_in unit.now t) (worth_of place.now) (worth_of v) from (rivals (top journal.old)))) result world.old world.new told.old.items told.new.items }
+    ensures did { DidAndTold worth_of (does (setting_of unit.now) (Writes (lvalue_in unit.now t) (worth_of place.now) (worth_of v) from (rivals (top journal.old)))) result world.old world.new told.old told.new }
     ensures noted { OnOk result (journal.new ≡ with_access (access_to (lvalue_in unit.now t) (pointer_of (worth_of place.now)) true) (top journal.old) ∷ below journal.old) }
 {
     match measured(unit.types(), t) {

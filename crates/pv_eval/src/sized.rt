@@ -2,7 +2,7 @@
 // unit's: then the run ends as by a value that is missing.
 ghost use Rattle.std.specs.Prelude.{◌≡◌};
 ghost use Rattle.pv_types.specs.Known.{tree};
-ghost use Rattle.pv_world.specs.Coming.{Did, worth_of};
+ghost use Rattle.pv_world.specs.Coming.{worth_of, DidAndTold};
 ghost use Rattle.pv_eval.specs.States.{Setting};
 ghost use Rattle.pv_eval.specs.Sizes.{element_in};
 ghost use Rattle.pv_eval.specs.Within.{PartTaken};
@@ -24,7 +24,7 @@ pub(crate) fn shift_by(
     x: &Got,
     told: &mut Vec<What>,
 ) -> Result<Got, WorldFailure>
-    ensures { (b : Setting) → Did worth_of (does b (Moves minus pointer_first (element_in types.now (tree types.now t.0)) (worth_of v.now) (worth_of x.now))) result world.old world.new told.old.items told.new.items }
+    ensures { (b : Setting) → DidAndTold worth_of (does b (Moves minus pointer_first (element_in types.now (tree types.now t.0)) (worth_of v.now) (worth_of x.now))) result world.old world.new told.old told.new }
 {
     match element_size(types, t) {
         Some(size) => world.shift(minus, pointer_first, size, v, x, told),
@@ -41,7 +41,7 @@ pub(crate) fn subtract_by(
     x: &Got,
     told: &mut Vec<What>,
 ) -> Result<Got, WorldFailure>
-    ensures { (b : Setting) → Did worth_of (does b (Subtracts (element_in types.now (tree types.now t.0)) (worth_of v.now) (worth_of x.now))) result world.old world.new told.old.items told.new.items }
+    ensures { (b : Setting) → DidAndTold worth_of (does b (Subtracts (element_in types.now (tree types.now t.0)) (worth_of v.now) (worth_of x.now))) result world.old world.new told.old told.new }
 {
     match element_size(types, t) {
         Some(size) => world.subtract(size, v, x, told),

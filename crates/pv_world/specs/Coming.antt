@@ -1,5 +1,7 @@
 -- A bridge: what a call of an operation comes to: its answer, the world after it, and what was told by then.
-use Rattle.std.specs.Prelude.{◌≡◌, ℕ, List, [], ◌∷◌, ◌++◌, Result, Ok, Err, All}
+use Rattle.std.specs.Prelude.{◌≡◌, ℕ, List, [], ◌∷◌, ◌++◌, Result, Ok, Err, IfOk, All}
+use Rattle.std.specs.declared.vec.Vec.{Vec}
+use Rattle.std.specs.declared.alloc.Global.{Global}
 use Rattle.pv_inst.specs.Table.{Table, IsMadeIn}
 use Rattle.pv_inst.specs.declared.values.CreateError.{CreateError}
 use Rattle.pv_inst.specs.declared.values.CreateError.TheVariants as refusal
@@ -38,6 +40,18 @@ IsMadeWorth T (Whole bytes origin) = All (λ (b : Byte). IsMadeIn T b.prov) byte
 IsMadeWorth T Nothing = Unit {0}
 IsMadeWorth T Missing = Unit {0}
 
+-- the names in what a call gives were made in the world after it (the memory model: provenance)
+abbrev pub GivesMade : {E : Type 0} → World → Result Got E → Type 0
+GivesMade w r = IfOk r (λ g. IsMadeWorth w.memory.table (worth_of g))
+
+-- of the world nothing but its memory may be another
+abbrev pub KeepsAllButMemory : (old new : World) → Type 0
+KeepsAllButMemory old new = new ≡ record old { memory = new.memory }
+
+-- these events were told, behind those before
+abbrev pub Tells : (before after : Vec What Global) → List What → Type 0
+Tells before after es = after.items ≡ before.items ++ es
+
 -- what an operation comes to, after events that were told before: a fault is told last
 pub data Seen : Type 0 where
   Gave : Worth → World → List What → Seen
@@ -64,6 +78,10 @@ Came give (Err failure.NoMemory) w es s = Unit {0}
 -- the operation was made
 abbrev pub Did : {A : Type 0} → (A → Worth) → (World → Done) → Result A Failure → (old new : World) → (before after : List What) → Type 0
 Did give op r old new before after = Came give r new after (coming_of before old (op old))
+
+-- the operation was made, and its events were told behind those before
+abbrev pub DidAndTold : {A : Type 0} → (A → Worth) → (World → Done) → Result A Failure → (old new : World) → (before after : Vec What Global) → Type 0
+DidAndTold give op r old new before after = Did give op r old new before.items after.items
 
 -- the run ends so, and this was told by then
 abbrev pub Faulted : Failure → Wrong → List What → List What → Type 0

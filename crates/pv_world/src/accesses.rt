@@ -2,7 +2,7 @@
 //
 // What an effective type permits (6.5p7) and whether an access has rivals (6.5p2) is known above: so the checks of memory,
 // the value of what was reached and a store are calls of their own.
-ghost use Rattle.std.specs.Prelude.{◌≡◌, ◌≤◌, ◌++◌, ◌&&◌, All, length, OnOk, IfOk, IfErr};
+ghost use Rattle.std.specs.Prelude.{◌≡◌, ◌≤◌, ◌&&◌, All, length, OnOk, IfOk, IfErr};
 ghost use Rattle.pv_inst.specs.declared.values.Test.{Test};
 ghost use Rattle.pv_inst.specs.Table.{IsMadeIn};
 ghost use Rattle.pv_inst.specs.Use.{use_answer, after_use};
@@ -20,7 +20,7 @@ ghost use Rattle.pv_world.specs.AccessParts.{range_use};
 ghost use Rattle.pv_world.specs.Preconditions.{HasSizeOf, HasPart, IsStored};
 ghost use Rattle.pv_world.specs.Suiting.{where_suiting, has_part, knows_worth};
 ghost use Rattle.pv_world.specs.Loads.{ReadsOn};
-ghost use Rattle.pv_world.specs.Coming.{Came, Did, coming_of, worth_of, IsMadeWorth};
+ghost use Rattle.pv_world.specs.Coming.{Came, coming_of, worth_of, IsMadeWorth, KeepsAllButMemory, GivesMade, DidAndTold, Tells};
 
 use crate::failing::{Blame, blame_of, fail, stopped_after};
 use crate::got::{Failure, Got, Shape};
@@ -80,13 +80,13 @@ impl World {
         requires made { IsMadeIn self.old.memory.table p.prov }
         requires aligned { 1 ≤ align }
         ensures goes_on { IfOk result (λ at. (go : Reach → WorldView → Told → Done) → reaching p n align write self.old go ≡ go at self.new (telling (range_use self.old.memory.table p n))) }
-        ensures told { OnOk result (told.new.items ≡ told.old.items ++ range_use self.old.memory.table p n) }
+        ensures told { OnOk result (Tells told.old told.new (range_use self.old.memory.table p n)) }
         ensures stops { IfErr result (λ e. (go : Reach → WorldView → Told → Done) → Came worth_of (Err e) self.new told.new.items (coming_of told.old.items self.old (reaching p n align write self.old go))) }
         ensures settled { OnOk result (self.new.memory.table ≡ after_use self.old.memory.table p.prov (use_answer self.old.memory.table p.prov (Test.Range p.address n))) }
         ensures world { OnOk result (self.new ≡ with_table self.old self.new.memory.table) }
         ensures within { IfOk result (λ at. IsReach self.new.memory.table at n) }
         ensures later { IsLater self.old.memory.table self.new.memory.table }
-        ensures memory { self.new ≡ record self.old { memory = self.new.memory } }
+        ensures memory { KeepsAllButMemory self.old self.new }
     {
         let blame = blame_of(&self.memory, p.prov);
         match self.memory.reach(p, n, align, write, Asker::Access) {
@@ -115,8 +115,8 @@ impl World {
         requires made { IsMadeIn self.old.memory.table p.prov }
         ensures did { ReadsOn self.old (bytes_from self.old.memory.bytes at.now.address n) shape at.now.address p blame result self.new told.old.items told.new.items }
         ensures later { IsLater self.old.memory.table self.new.memory.table }
-        ensures memory { self.new ≡ record self.old { memory = self.new.memory } }
-        ensures made { IfOk result (λ g. IsMadeWorth self.new.memory.table (worth_of g)) }
+        ensures memory { KeepsAllButMemory self.old self.new }
+        ensures made { GivesMade self.new result }
     {
         if let Shape::Pointer = shape {
             return self.value_of_pointer(at, p, blame, told);
@@ -145,8 +145,8 @@ impl World {
         requires made { IsMadeIn self.old.memory.table p.prov }
         ensures did { ReadsOn self.old (bytes_from self.old.memory.bytes at.now.address 8) Shape.Pointer at.now.address p blame result self.new told.old.items told.new.items }
         ensures later { IsLater self.old.memory.table self.new.memory.table }
-        ensures memory { self.new ≡ record self.old { memory = self.new.memory } }
-        ensures made { IfOk result (λ g. IsMadeWorth self.new.memory.table (worth_of g)) }
+        ensures memory { KeepsAllButMemory self.old self.new }
+        ensures made { GivesMade self.new result }
     {
         let Some(whole) = self.memory.whole_pointer(at) else {
             return self.value_of_few(at, 8, Shape::Pointer, p, blame, told);
@@ -173,8 +173,8 @@ impl World {
         requires made { IsMadeIn self.old.memory.table p.prov }
         ensures did { ReadsOn self.old (bytes_from self.old.memory.bytes at.now.address n) shape at.now.address p blame result self.new told.old.items told.new.items }
         ensures later { IsLater self.old.memory.table self.new.memory.table }
-        ensures memory { self.new ≡ record self.old { memory = self.new.memory } }
-        ensures made { IfOk result (λ g. IsMadeWorth self.new.memory.table (worth_of g)) }
+        ensures memory { KeepsAllButMemory self.old self.new }
+        ensures made { GivesMade self.new result }
     {
         let mut room = [BLANK; 8];
         let bytes = &mut room[..n as usize];
@@ -195,10 +195,10 @@ impl World {
         told: &mut Vec<What>,
     ) -> Result<Got, Failure>
         requires size { HasSizeOf shape size }
-        ensures did { Did worth_of (where_suiting (has_part (worth_of v.now) offset size && knows_worth self.old.memory.table (worth_of v.now)) (takes_bytes offset size shape (worth_of v.now))) result self.old self.new told.old.items told.new.items }
+        ensures did { DidAndTold worth_of (where_suiting (has_part (worth_of v.now) offset size && knows_worth self.old.memory.table (worth_of v.now)) (takes_bytes offset size shape (worth_of v.now))) result self.old self.new told.old told.new }
         ensures later { IsLater self.old.memory.table self.new.memory.table }
-        ensures memory { self.new ≡ record self.old { memory = self.new.memory } }
-        ensures made { IfOk result (λ g. IsMadeWorth self.new.memory.table (worth_of g)) }
+        ensures memory { KeepsAllButMemory self.old self.new }
+        ensures made { GivesMade self.new result }
     {
         if self.can_take(offset, size, v) {
             self.part_suiting(offset, size, shape, v, told)
@@ -220,10 +220,10 @@ impl World {
         requires size { HasSizeOf shape size }
         requires within { HasPart (worth_of v.now) offset size }
         requires made { IsMadeWorth self.old.memory.table (worth_of v.now) }
-        ensures did { Did worth_of (takes_bytes offset size shape (worth_of v.now)) result self.old self.new told.old.items told.new.items }
+        ensures did { DidAndTold worth_of (takes_bytes offset size shape (worth_of v.now)) result self.old self.new told.old told.new }
         ensures later { IsLater self.old.memory.table self.new.memory.table }
-        ensures memory { self.new ≡ record self.old { memory = self.new.memory } }
-        ensures made { IfOk result (λ g. IsMadeWorth self.new.memory.table (worth_of g)) }
+        ensures memory { KeepsAllButMemory self.old self.new }
+        ensures made { GivesMade self.new result }
     {
         match v {
             Got::Missing => Err(fail(told, missing(), None)),
@@ -246,10 +246,10 @@ impl World {
     ) -> Result<Got, Failure>
         requires size { HasSizeOf shape (length bytes.now) }
         requires made { All (λ b. IsMadeIn self.old.memory.table b.prov) bytes.now }
-        ensures did { Did worth_of (λ w. worth_in w bytes.now shape None None no_telling) result self.old self.new told.old.items told.new.items }
+        ensures did { DidAndTold worth_of (λ w. worth_in w bytes.now shape None None no_telling) result self.old self.new told.old told.new }
         ensures later { IsLater self.old.memory.table self.new.memory.table }
-        ensures memory { self.new ≡ record self.old { memory = self.new.memory } }
-        ensures made { IfOk result (λ g. IsMadeWorth self.new.memory.table (worth_of g)) }
+        ensures memory { KeepsAllButMemory self.old self.new }
+        ensures made { GivesMade self.new result }
     {
         let loaded = blame_of_bytes(&self.memory, bytes);
         self.valued(bytes, shape, None, None, loaded, told)

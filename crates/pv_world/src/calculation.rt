@@ -10,7 +10,7 @@ ghost use Rattle.pv_world.specs.Worths.{int, int_of, arithmetic_fault};
 ghost use Rattle.pv_world.specs.Calculations.{follows_to};
 ghost use Rattle.pv_world.specs.Suiting.{where_suiting, is_integer, is_of_promoted, are_operands};
 ghost use Rattle.pv_world.specs.CalculationParts.{accepts, needs, calculates, calculates_one};
-ghost use Rattle.pv_world.specs.Coming.{Did, Faulted, worth_of, IsMadeWorth};
+ghost use Rattle.pv_world.specs.Coming.{Faulted, worth_of, IsMadeWorth, DidAndTold};
 
 use crate::failing::fail;
 use crate::got::{Cause, Failure, Got};
@@ -70,7 +70,7 @@ pub fn calculate(
     x: &Got,
     told: &mut Vec<What>,
 ) -> Result<Got, Failure>
-    ensures did { (w : WorldView) → Did worth_of (where_suiting (are_operands op kind (worth_of v.now) (worth_of x.now)) (calculates op kind (worth_of v.now) (worth_of x.now))) result w w told.old.items told.new.items }
+    ensures did { (w : WorldView) → DidAndTold worth_of (where_suiting (are_operands op kind (worth_of v.now) (worth_of x.now)) (calculates op kind (worth_of v.now) (worth_of x.now))) result w w told.old told.new }
 {
     if are_operands(op, kind, v, x) {
         calculate_suiting(op, kind, v, x, told)
@@ -91,7 +91,7 @@ fn calculate_suiting(
     requires promoted { IsPromoted kind }
     requires left { Fits kind (int_of (worth_of v.now)) }
     requires right { IsOperand op kind (int_of (worth_of x.now)) }
-    ensures did { (w : WorldView) → Did worth_of (calculates op kind (worth_of v.now) (worth_of x.now)) result w w told.old.items told.new.items }
+    ensures did { (w : WorldView) → DidAndTold worth_of (calculates op kind (worth_of v.now) (worth_of x.now)) result w w told.old told.new }
 {
     if let Some(cause) = unplain(v) {
         return Err(fail(told, cause, None));
@@ -108,7 +108,7 @@ fn calculate_suiting(
 /// An operator on one integer (6.5.3.3), or the end of the run as by a missing value.
 #[tactic(auto, using(crate::proofs::Guards::suited, crate::proofs::Guards::unsuited))]
 pub fn calculate_one(op: UnOp, kind: IntKind, v: &Got, told: &mut Vec<What>) -> Result<Got, Failure>
-    ensures did { (w : WorldView) → Did worth_of (where_suiting (is_of_promoted kind (worth_of v.now)) (calculates_one op kind (worth_of v.now))) result w w told.old.items told.new.items }
+    ensures did { (w : WorldView) → DidAndTold worth_of (where_suiting (is_of_promoted kind (worth_of v.now)) (calculates_one op kind (worth_of v.now))) result w w told.old told.new }
 {
     if is_of_promoted(kind, v) {
         calculate_one_suiting(op, kind, v, told)
@@ -127,7 +127,7 @@ fn calculate_one_suiting(
 ) -> Result<Got, Failure>
     requires promoted { IsPromoted kind }
     requires operand { Fits kind (int_of (worth_of v.now)) }
-    ensures did { (w : WorldView) → Did worth_of (calculates_one op kind (worth_of v.now)) result w w told.old.items told.new.items }
+    ensures did { (w : WorldView) → DidAndTold worth_of (calculates_one op kind (worth_of v.now)) result w w told.old told.new }
 {
     if let Some(cause) = unplain(v) {
         return Err(fail(told, cause, None));
@@ -140,7 +140,7 @@ fn calculate_one_suiting(
 
 /// A number that an operation looks at (6.8.4.2p5): it is neither missing nor never set.
 pub fn need(v: Got, told: &mut Vec<What>) -> Result<i128, Failure>
-    ensures did { (w : WorldView) → Did int (where_suiting (is_integer (worth_of v)) (needs (worth_of v))) result w w told.old.items told.new.items }
+    ensures did { (w : WorldView) → DidAndTold int (where_suiting (is_integer (worth_of v)) (needs (worth_of v))) result w w told.old told.new }
 {
     match v {
         Got::Scalar(Value::Int(n)) => Ok(n),
@@ -152,7 +152,7 @@ pub fn need(v: Got, told: &mut Vec<What>) -> Result<i128, Failure>
 
 /// A value that is handed on (6.5.2.2p4): it is not missing.
 pub fn accept(v: Got, told: &mut Vec<What>) -> Result<Got, Failure>
-    ensures did { (w : WorldView) → Did worth_of (accepts (worth_of v)) result w w told.old.items told.new.items }
+    ensures did { (w : WorldView) → DidAndTold worth_of (accepts (worth_of v)) result w w told.old told.new }
     ensures made { (T : Table) → IsMadeWorth T (worth_of v) → IfOk result (λ g. IsMadeWorth T (worth_of g)) }
 {
     match v {
@@ -165,7 +165,7 @@ pub fn accept(v: Got, told: &mut Vec<What>) -> Result<Got, Failure>
 
 /// What `*` gives (6.5.3.2p4): nothing, where it has the type `void`. It is checked alone that there is a value.
 pub fn follow(nothing: bool, v: Got, told: &mut Vec<What>) -> Result<Got, Failure>
-    ensures did { (w : WorldView) → Did worth_of (follows_to nothing (worth_of v)) result w w told.old.items told.new.items }
+    ensures did { (w : WorldView) → DidAndTold worth_of (follows_to nothing (worth_of v)) result w w told.old told.new }
     ensures made { (T : Table) → IsMadeWorth T (worth_of v) → IfOk result (λ g. IsMadeWorth T (worth_of g)) }
 {
     if nothing {

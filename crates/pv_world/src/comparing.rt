@@ -1,12 +1,12 @@
 // The equality and the order of pointers (6.5.8p5, 6.5.9p6).
-ghost use Rattle.std.specs.Prelude.{◌≡◌, ◌<◌, ◌&&◌, pos, true, Ok, IfOk};
+ghost use Rattle.std.specs.Prelude.{◌≡◌, ◌<◌, ◌&&◌, pos, true, Ok};
 ghost use Rattle.pv_num.specs.Arithmetic.{binary_of};
 ghost use Rattle.pv_inst.specs.Table.{IsMadeIn};
 ghost use Rattle.pv_object.specs.Later.{IsLater};
 ghost use Rattle.pv_object.specs.Operations.{order, pointer_equality};
 ghost use Rattle.pv_world.specs.Pointers.{orders, ordered_by, is_order, equals, equal_by};
 ghost use Rattle.pv_world.specs.Suiting.{where_suiting, knows_both};
-ghost use Rattle.pv_world.specs.Coming.{Did, worth_of, IsMadeWorth};
+ghost use Rattle.pv_world.specs.Coming.{worth_of, IsMadeWorth, KeepsAllButMemory, GivesMade, DidAndTold};
 
 use crate::failing::{blame_of, fail, stopped, stopped_after};
 use crate::got::{Failure, Got};
@@ -43,10 +43,10 @@ impl World {
         x: &Got,
         told: &mut Vec<What>,
     ) -> Result<Got, Failure>
-        ensures did { Did worth_of (where_suiting (knows_both self.old.memory.table (worth_of v.now) (worth_of x.now)) (equals negated (worth_of v.now) (worth_of x.now))) result self.old self.new told.old.items told.new.items }
+        ensures did { DidAndTold worth_of (where_suiting (knows_both self.old.memory.table (worth_of v.now) (worth_of x.now)) (equals negated (worth_of v.now) (worth_of x.now))) result self.old self.new told.old told.new }
         ensures later { IsLater self.old.memory.table self.new.memory.table }
-        ensures memory { self.new ≡ record self.old { memory = self.new.memory } }
-        ensures made { IfOk result (λ g. IsMadeWorth self.new.memory.table (worth_of g)) }
+        ensures memory { KeepsAllButMemory self.old self.new }
+        ensures made { GivesMade self.new result }
     {
         if self.knows_both(v, x) {
             self.equal_suiting(negated, v, x, told)
@@ -66,10 +66,10 @@ impl World {
     ) -> Result<Got, Failure>
         requires left { IsMadeWorth self.old.memory.table (worth_of v.now) }
         requires right { IsMadeWorth self.old.memory.table (worth_of x.now) }
-        ensures did { Did worth_of (equals negated (worth_of v.now) (worth_of x.now)) result self.old self.new told.old.items told.new.items }
+        ensures did { DidAndTold worth_of (equals negated (worth_of v.now) (worth_of x.now)) result self.old self.new told.old told.new }
         ensures later { IsLater self.old.memory.table self.new.memory.table }
-        ensures memory { self.new ≡ record self.old { memory = self.new.memory } }
-        ensures made { IfOk result (λ g. IsMadeWorth self.new.memory.table (worth_of g)) }
+        ensures memory { KeepsAllButMemory self.old self.new }
+        ensures made { GivesMade self.new result }
     {
         if let Some(cause) = unplain(v) {
             return Err(fail(told, cause, None));
@@ -91,10 +91,10 @@ impl World {
     ) -> Result<Got, Failure>
         requires left { IsMadeIn self.old.memory.table p.prov }
         requires right { IsMadeIn self.old.memory.table q.prov }
-        ensures did { Did worth_of (λ w. equal_by negated w p q (pointer_equality w.memory.table p q)) result self.old self.new told.old.items told.new.items }
+        ensures did { DidAndTold worth_of (λ w. equal_by negated w p q (pointer_equality w.memory.table p q)) result self.old self.new told.old told.new }
         ensures later { IsLater self.old.memory.table self.new.memory.table }
-        ensures memory { self.new ≡ record self.old { memory = self.new.memory } }
-        ensures made { IfOk result (λ g. IsMadeWorth self.new.memory.table (worth_of g)) }
+        ensures memory { KeepsAllButMemory self.old self.new }
+        ensures made { GivesMade self.new result }
     {
         let blame = blame_of(&self.memory, p.prov);
         match self.memory.equal(p, q) {
@@ -115,10 +115,10 @@ impl World {
         x: &Got,
         told: &mut Vec<What>,
     ) -> Result<Got, Failure>
-        ensures did { Did worth_of (where_suiting (is_order op && knows_both self.old.memory.table (worth_of v.now) (worth_of x.now)) (orders op (worth_of v.now) (worth_of x.now))) result self.old self.new told.old.items told.new.items }
+        ensures did { DidAndTold worth_of (where_suiting (is_order op && knows_both self.old.memory.table (worth_of v.now) (worth_of x.now)) (orders op (worth_of v.now) (worth_of x.now))) result self.old self.new told.old told.new }
         ensures later { IsLater self.old.memory.table self.new.memory.table }
-        ensures memory { self.new ≡ record self.old { memory = self.new.memory } }
-        ensures made { IfOk result (λ g. IsMadeWorth self.new.memory.table (worth_of g)) }
+        ensures memory { KeepsAllButMemory self.old self.new }
+        ensures made { GivesMade self.new result }
     {
         if self.can_order(op, v, x) {
             self.order_suiting(op, v, x, told)
@@ -139,10 +139,10 @@ impl World {
         requires operator { is_order op ≡ true }
         requires left { IsMadeWorth self.old.memory.table (worth_of v.now) }
         requires right { IsMadeWorth self.old.memory.table (worth_of x.now) }
-        ensures did { Did worth_of (orders op (worth_of v.now) (worth_of x.now)) result self.old self.new told.old.items told.new.items }
+        ensures did { DidAndTold worth_of (orders op (worth_of v.now) (worth_of x.now)) result self.old self.new told.old told.new }
         ensures later { IsLater self.old.memory.table self.new.memory.table }
-        ensures memory { self.new ≡ record self.old { memory = self.new.memory } }
-        ensures made { IfOk result (λ g. IsMadeWorth self.new.memory.table (worth_of g)) }
+        ensures memory { KeepsAllButMemory self.old self.new }
+        ensures made { GivesMade self.new result }
     {
         if let Some(cause) = unplain(v) {
             return Err(fail(told, cause, None));
@@ -165,10 +165,10 @@ impl World {
         requires operator { is_order op ≡ true }
         requires left { IsMadeIn self.old.memory.table p.prov }
         requires right { IsMadeIn self.old.memory.table q.prov }
-        ensures did { Did worth_of (λ w. ordered_by op w p q (order w.memory.table p q)) result self.old self.new told.old.items told.new.items }
+        ensures did { DidAndTold worth_of (λ w. ordered_by op w p q (order w.memory.table p q)) result self.old self.new told.old told.new }
         ensures later { IsLater self.old.memory.table self.new.memory.table }
-        ensures memory { self.new ≡ record self.old { memory = self.new.memory } }
-        ensures made { IfOk result (λ g. IsMadeWorth self.new.memory.table (worth_of g)) }
+        ensures memory { KeepsAllButMemory self.old self.new }
+        ensures made { GivesMade self.new result }
     {
         let blame = blame_of(&self.memory, p.prov);
         match self.memory.order(p, q) {

@@ -1,5 +1,5 @@
 // Conversions (6.3).
-ghost use Rattle.std.specs.Prelude.{◌≡◌, ◌≤◌, IfOk};
+ghost use Rattle.std.specs.Prelude.{◌≤◌};
 ghost use Rattle.pv_inst.specs.Table.{IsMadeIn};
 ghost use Rattle.pv_object.specs.Later.{IsLater};
 ghost use Rattle.pv_object.specs.Operations.{recast};
@@ -8,7 +8,7 @@ ghost use Rattle.pv_world.specs.Worths.{why_not_set, int_of, pointer_of};
 ghost use Rattle.pv_world.specs.Preconditions.{IsSmall};
 ghost use Rattle.pv_world.specs.Suiting.{where_suiting, is_convertible};
 ghost use Rattle.pv_world.specs.Conversions.{converts, recast_by, passes};
-ghost use Rattle.pv_world.specs.Coming.{Did, worth_of, IsMadeWorth};
+ghost use Rattle.pv_world.specs.Coming.{worth_of, IsMadeWorth, KeepsAllButMemory, GivesMade, DidAndTold};
 
 use crate::failing::{blame_of, fail, stopped_after};
 use crate::got::{Failure, Got, How};
@@ -25,10 +25,10 @@ impl World {
     #[tactic(auto, using(crate::proofs::Guards::suited, crate::proofs::Guards::unsuited, crate::proofs::Laters::later_itself))]
     pub fn convert(&mut self, how: How, v: Got, told: &mut Vec<What>) -> Result<Got, Failure>
         requires sized { IsHow how }
-        ensures did { Did worth_of (where_suiting (is_convertible self.old.memory.table (worth_of v)) (converts how (worth_of v))) result self.old self.new told.old.items told.new.items }
+        ensures did { DidAndTold worth_of (where_suiting (is_convertible self.old.memory.table (worth_of v)) (converts how (worth_of v))) result self.old self.new told.old told.new }
         ensures later { IsLater self.old.memory.table self.new.memory.table }
-        ensures memory { self.new ≡ record self.old { memory = self.new.memory } }
-        ensures made { IfOk result (λ g. IsMadeWorth self.new.memory.table (worth_of g)) }
+        ensures memory { KeepsAllButMemory self.old self.new }
+        ensures made { GivesMade self.new result }
     {
         if self.is_convertible(&v) {
             self.convert_suiting(how, v, told)
@@ -42,10 +42,10 @@ impl World {
         requires sized { IsHow how }
         requires small { IsSmall (worth_of v) }
         requires made { IsMadeWorth self.old.memory.table (worth_of v) }
-        ensures did { Did worth_of (converts how (worth_of v)) result self.old self.new told.old.items told.new.items }
+        ensures did { DidAndTold worth_of (converts how (worth_of v)) result self.old self.new told.old told.new }
         ensures later { IsLater self.old.memory.table self.new.memory.table }
-        ensures memory { self.new ≡ record self.old { memory = self.new.memory } }
-        ensures made { IfOk result (λ g. IsMadeWorth self.new.memory.table (worth_of g)) }
+        ensures memory { KeepsAllButMemory self.old self.new }
+        ensures made { GivesMade self.new result }
     {
         match how {
             How::Rounds(k) => self.round(k, &v, told),
@@ -65,10 +65,10 @@ impl World {
     #[tactic(auto, using(crate::proofs::Comings::came_fails, crate::proofs::Laters::later_itself, crate::proofs::Laters::later_both, crate::proofs::Laters::made_later))]
     fn round(&mut self, k: IntKind, v: &Got, told: &mut Vec<What>) -> Result<Got, Failure>
         requires { IsSmall (worth_of v.now) }
-        ensures did { Did worth_of (converts (How.Rounds k) (worth_of v.now)) result self.old self.new told.old.items told.new.items }
+        ensures did { DidAndTold worth_of (converts (How.Rounds k) (worth_of v.now)) result self.old self.new told.old told.new }
         ensures later { IsLater self.old.memory.table self.new.memory.table }
-        ensures memory { self.new ≡ record self.old { memory = self.new.memory } }
-        ensures made { IfOk result (λ g. IsMadeWorth self.new.memory.table (worth_of g)) }
+        ensures memory { KeepsAllButMemory self.old self.new }
+        ensures made { GivesMade self.new result }
     {
         match unplain(v) {
             Some(cause) => Err(fail(told, cause, None)),
@@ -81,10 +81,10 @@ impl World {
     fn pass(&mut self, k: IntKind, v: Got, told: &mut Vec<What>) -> Result<Got, Failure>
         requires small { IsSmall (worth_of v) }
         requires made { IsMadeWorth self.old.memory.table (worth_of v) }
-        ensures did { Did worth_of (converts (How.Passes k) (worth_of v)) result self.old self.new told.old.items told.new.items }
+        ensures did { DidAndTold worth_of (converts (How.Passes k) (worth_of v)) result self.old self.new told.old told.new }
         ensures later { IsLater self.old.memory.table self.new.memory.table }
-        ensures memory { self.new ≡ record self.old { memory = self.new.memory } }
-        ensures made { IfOk result (λ g. IsMadeWorth self.new.memory.table (worth_of g)) }
+        ensures memory { KeepsAllButMemory self.old self.new }
+        ensures made { GivesMade self.new result }
     {
         match v {
             Got::Missing => Err(fail(told, missing(), None)),
@@ -101,10 +101,10 @@ impl World {
     fn recast(&mut self, align: u64, v: &Got, told: &mut Vec<What>) -> Result<Got, Failure>
         requires aligned { 1 ≤ align }
         requires made { IsMadeWorth self.old.memory.table (worth_of v.now) }
-        ensures did { Did worth_of (converts (How.Recasts align) (worth_of v.now)) result self.old self.new told.old.items told.new.items }
+        ensures did { DidAndTold worth_of (converts (How.Recasts align) (worth_of v.now)) result self.old self.new told.old told.new }
         ensures later { IsLater self.old.memory.table self.new.memory.table }
-        ensures memory { self.new ≡ record self.old { memory = self.new.memory } }
-        ensures made { IfOk result (λ g. IsMadeWorth self.new.memory.table (worth_of g)) }
+        ensures memory { KeepsAllButMemory self.old self.new }
+        ensures made { GivesMade self.new result }
     {
         match unplain(v) {
             Some(cause) => Err(fail(told, cause, None)),
@@ -122,10 +122,10 @@ impl World {
     ) -> Result<Got, Failure>
         requires aligned { 1 ≤ align }
         requires made { IsMadeIn self.old.memory.table p.prov }
-        ensures did { Did worth_of (λ w. recast_by w p (recast w.memory.table p align)) result self.old self.new told.old.items told.new.items }
+        ensures did { DidAndTold worth_of (λ w. recast_by w p (recast w.memory.table p align)) result self.old self.new told.old told.new }
         ensures later { IsLater self.old.memory.table self.new.memory.table }
-        ensures memory { self.new ≡ record self.old { memory = self.new.memory } }
-        ensures made { IfOk result (λ g. IsMadeWorth self.new.memory.table (worth_of g)) }
+        ensures memory { KeepsAllButMemory self.old self.new }
+        ensures made { GivesMade self.new result }
     {
         let blame = blame_of(&self.memory, p.prov);
         match self.memory.recast(p, align) {

@@ -1,5 +1,5 @@
 // The instances of functions that are pointed to (6.3.2.1p4), and the function that a pointer points to (6.5.2.2p1).
-ghost use Rattle.std.specs.Prelude.{◌≡◌, ◌<◌, ◌++◌, ◌≢◌, Some, ℕ, Bool, codes, length, OnOk, IfOk, Option};
+ghost use Rattle.std.specs.Prelude.{◌≡◌, ◌<◌, ◌≢◌, Some, ℕ, Bool, codes, length, OnOk, Option};
 ghost use Rattle.pv_script.specs.Names.{name_at as text_of};
 ghost use Rattle.pv_inst.specs.Answers.{IsLive};
 ghost use Rattle.pv_object.specs.Later.{IsLater};
@@ -8,7 +8,7 @@ ghost use Rattle.pv_world.specs.Telling.{event_of_making};
 ghost use Rattle.pv_world.specs.PointerParts.{unlike};
 ghost use Rattle.pv_world.specs.Callees.{FoundAs, FoundBy};
 ghost use Rattle.pv_inst.specs.Table.{IsMadeIn};
-ghost use Rattle.pv_world.specs.Coming.{CameMade, coming_of, worth_of, wrong_for, IsMadeWorth};
+ghost use Rattle.pv_world.specs.Coming.{CameMade, coming_of, worth_of, wrong_for, IsMadeWorth, KeepsAllButMemory, Tells};
 
 use crate::failing::{blame_of, fail, stopped};
 use crate::got::{Cause, Failure, Got};
@@ -65,7 +65,7 @@ impl World {
     ) -> Result<(), NoMemory>
         requires { IsLive self.old.memory.table.instances i }
         ensures world { OnOk result (self.new ≡ function_bound (owning self.old self.old.memory i (Some function)) function i) }
-        ensures told { OnOk result (told.new.items ≡ told.old.items ++ event_of_making self.old.memory.table i) }
+        ensures told { OnOk result (Tells told.old told.new (event_of_making self.old.memory.table i)) }
     {
         match own(&mut self.owners, i, Some(function)) {
             Ok(()) => {}
@@ -85,7 +85,7 @@ impl World {
         requires { IsMadeWorth self.old.memory.table (worth_of v.now) }
         ensures found { (fits : Option ℕ → Bool) → FoundAs fits (worth_of v.now) result self.old self.new told.old.items told.new.items }
         ensures later { IsLater self.old.memory.table self.new.memory.table }
-        ensures memory { self.new ≡ record self.old { memory = self.new.memory } }
+        ensures memory { KeepsAllButMemory self.old self.new }
     {
         match unplain(v) {
             Some(cause) => Err(fail(told, cause, None)),
@@ -99,7 +99,7 @@ impl World {
         requires { IsMadeIn self.old.memory.table p.prov }
         ensures found { (fits : Option ℕ → Bool) → FoundBy fits p result self.old self.new told.old.items told.new.items }
         ensures later { IsLater self.old.memory.table self.new.memory.table }
-        ensures memory { self.new ≡ record self.old { memory = self.new.memory } }
+        ensures memory { KeepsAllButMemory self.old self.new }
     {
         let blame = blame_of(&self.memory, p.prov);
         match self.memory.code(p) {

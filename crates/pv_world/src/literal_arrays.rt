@@ -1,5 +1,5 @@
 // The arrays of string literals (6.4.5p6).
-ghost use Rattle.std.specs.Prelude.{◌≡◌, ◌≤◌, ◌<◌, ◌+◌, ◌-◌, ◌++◌, ◌≢◌, Some, None, length, codes, OnOk, IfOk};
+ghost use Rattle.std.specs.Prelude.{◌≡◌, ◌≤◌, ◌<◌, ◌-◌, ◌≢◌, Some, None, length, codes, OnOk, IfOk};
 ghost use Rattle.pv_script.specs.Names.{name_at as text_of};
 ghost use Rattle.pv_shadow.specs.Whole.{number_bytes};
 ghost use Rattle.pv_object.specs.Answers.{HasSize};
@@ -7,7 +7,7 @@ ghost use Rattle.pv_inst.specs.Answers.{IsLive};
 ghost use Rattle.pv_world.specs.Objects.{owning, bind, makes_literal_of, literal_bound, with_characters};
 ghost use Rattle.pv_world.specs.Telling.{event_of_making};
 ghost use Rattle.pv_watch.specs.declared.event.What.{What};
-ghost use Rattle.pv_world.specs.Coming.{CameMade, coming_of};
+ghost use Rattle.pv_world.specs.Coming.{CameMade, coming_of, Tells};
 
 use crate::objects::own;
 use crate::telling::tell_made;
@@ -75,7 +75,7 @@ impl World {
         requires live { IsLive self.old.memory.table.instances i }
         requires sized { HasSize self.old.memory.table.instances i (length bytes.now) }
         ensures world { OnOk result (self.new ≡ with_characters (literal_bound (owning self.old self.old.memory i None) literal i) i bytes.now) }
-        ensures told { OnOk result (told.new.items ≡ told.old.items ++ event_of_making self.old.memory.table i) }
+        ensures told { OnOk result (Tells told.old told.new (event_of_making self.old.memory.table i)) }
     {
         let characters = match characters(self.alloc, bytes) {
             Ok(characters) => characters,

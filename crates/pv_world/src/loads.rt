@@ -1,5 +1,5 @@
 // What bytes are worth (6.2.6.1p5), with what is told of it, and whom a stop blames.
-ghost use Rattle.std.specs.Prelude.{◌≡◌, ◌≤◌, ◌+◌, ◌++◌, All, length, drop, Result, Some, OnOk, IfOk};
+ghost use Rattle.std.specs.Prelude.{◌≡◌, ◌≤◌, ◌+◌, ◌++◌, All, length, drop, Result, Some, OnOk};
 ghost use Rattle.std.specs.Option.{option_map};
 ghost use Rattle.pv_inst.specs.declared.values.Tried.{Tried};
 ghost use Rattle.pv_inst.specs.declared.values.Miss.{Miss};
@@ -15,7 +15,7 @@ ghost use Rattle.pv_world.specs.Worlds.{with_table};
 ghost use Rattle.pv_world.specs.Telling.{event_of_use, live_test, exposures, all_told, each_paired, blame_of};
 ghost use Rattle.pv_world.specs.Preconditions.{HasSizeOf};
 ghost use Rattle.pv_world.specs.Loads.{stop_blame, loaded_seen, valued_seen};
-ghost use Rattle.pv_world.specs.Coming.{Came, worth_of, IsMadeWorth};
+ghost use Rattle.pv_world.specs.Coming.{Came, worth_of, KeepsAllButMemory, GivesMade, Tells};
 
 use crate::failing::{Blame, blame_of, stopped};
 use crate::got::{Failure, Got, Shape};
@@ -88,10 +88,10 @@ impl World {
     #[tactic(auto, using(crate::proofs::Laters::later_itself))]
     fn tell_load(&mut self, told: &mut Vec<What>, before: u64, tried: Tried) -> Result<(), NoMemory>
         requires { before ≤ length self.old.memory.table.pairs }
-        ensures told { OnOk result (told.new.items ≡ told.old.items ++ each_paired self.old.memory.table (before + 1) (drop before self.old.memory.table.pairs) ++ event_of_use live_test tried ++ exposures self.old.memory.table) }
+        ensures told { OnOk result (Tells told.old told.new (each_paired self.old.memory.table (before + 1) (drop before self.old.memory.table.pairs) ++ event_of_use live_test tried ++ exposures self.old.memory.table)) }
         ensures state { OnOk result (self.new ≡ with_table self.old (all_told self.old.memory.table)) }
         ensures later { IsLater self.old.memory.table self.new.memory.table }
-        ensures memory { self.new ≡ record self.old { memory = self.new.memory } }
+        ensures memory { KeepsAllButMemory self.old self.new }
     {
         let Ok(()) = tell_pairs(told, &self.memory, before) else {
             return Err(NoMemory);
@@ -118,8 +118,8 @@ impl World {
         requires made { All (λ b. IsMadeIn self.old.memory.table b.prov) bytes.now }
         ensures did { Came worth_of result self.new told.new.items (loaded_seen told.old.items self.old shape accessed loaded (load_of self.old.memory.table bytes.now t)) }
         ensures later { IsLater self.old.memory.table self.new.memory.table }
-        ensures memory { self.new ≡ record self.old { memory = self.new.memory } }
-        ensures made { IfOk result (λ g. IsMadeWorth self.new.memory.table (worth_of g)) }
+        ensures memory { KeepsAllButMemory self.old self.new }
+        ensures made { GivesMade self.new result }
     {
         let before = self.memory.instances().pairs_made();
         match self.memory.value_of(bytes, t) {
@@ -147,8 +147,8 @@ impl World {
         requires { IsMadeIn self.old.memory.table q.prov }
         ensures did { Came worth_of result self.new told.new.items (loaded_seen told.old.items self.old Shape.Pointer (Some accessed) (Some loaded) (loaded_test self.old.memory.table q)) }
         ensures later { IsLater self.old.memory.table self.new.memory.table }
-        ensures memory { self.new ≡ record self.old { memory = self.new.memory } }
-        ensures made { IfOk result (λ g. IsMadeWorth self.new.memory.table (worth_of g)) }
+        ensures memory { KeepsAllButMemory self.old self.new }
+        ensures made { GivesMade self.new result }
     {
         let before = self.memory.instances().pairs_made();
         match self.memory.tested(q) {
@@ -179,8 +179,8 @@ impl World {
         requires made { All (λ b. IsMadeIn self.old.memory.table b.prov) bytes.now }
         ensures did { Came worth_of result self.new told.new.items (valued_seen told.old.items self.old bytes.now shape origin accessed loaded) }
         ensures later { IsLater self.old.memory.table self.new.memory.table }
-        ensures memory { self.new ≡ record self.old { memory = self.new.memory } }
-        ensures made { IfOk result (λ g. IsMadeWorth self.new.memory.table (worth_of g)) }
+        ensures memory { KeepsAllButMemory self.old self.new }
+        ensures made { GivesMade self.new result }
     {
         match shape {
             Shape::Int(k) => self.scalar_in(bytes, shape, Scalar::Int(k), accessed, loaded, told),

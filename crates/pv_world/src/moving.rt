@@ -1,5 +1,5 @@
 // Pointers that are moved (6.5.6p8), and members (6.5.2.3).
-ghost use Rattle.std.specs.Prelude.{◌≡◌, ◌≤◌, ◌<◌, ◌^◌, ℤ, pos, neg_ℤ, ◌≤ℤ◌, Ok, IfOk};
+ghost use Rattle.std.specs.Prelude.{◌≡◌, ◌≤◌, ◌<◌, ◌^◌, ℤ, pos, neg_ℤ, ◌≤ℤ◌, Ok};
 ghost use Rattle.pv_inst.specs.Table.{IsMadeIn};
 ghost use Rattle.pv_object.specs.Later.{IsLater};
 ghost use Rattle.pv_object.specs.Operations.{shift, select};
@@ -7,7 +7,7 @@ ghost use Rattle.pv_world.specs.Preconditions.{IsSmall};
 ghost use Rattle.pv_world.specs.Pointers.{distance, moves, moved_by};
 ghost use Rattle.pv_world.specs.PointerParts.{selects};
 ghost use Rattle.pv_world.specs.Suiting.{where_suiting, knows_worth, can_shift};
-ghost use Rattle.pv_world.specs.Coming.{Did, worth_of, IsMadeWorth};
+ghost use Rattle.pv_world.specs.Coming.{worth_of, IsMadeWorth, KeepsAllButMemory, GivesMade, DidAndTold};
 
 use crate::failing::{blame_of, fail, stopped};
 use crate::got::{Failure, Got};
@@ -43,10 +43,10 @@ impl World {
         told: &mut Vec<What>,
     ) -> Result<Got, Failure>
         requires sized { size < 2 ^ 62 }
-        ensures did { Did worth_of (where_suiting (can_shift self.old.memory.table (worth_of v.now) (worth_of x.now)) (moves minus pointer_first size (worth_of v.now) (worth_of x.now))) result self.old self.new told.old.items told.new.items }
+        ensures did { DidAndTold worth_of (where_suiting (can_shift self.old.memory.table (worth_of v.now) (worth_of x.now)) (moves minus pointer_first size (worth_of v.now) (worth_of x.now))) result self.old self.new told.old told.new }
         ensures later { IsLater self.old.memory.table self.new.memory.table }
-        ensures memory { self.new ≡ record self.old { memory = self.new.memory } }
-        ensures made { IfOk result (λ g. IsMadeWorth self.new.memory.table (worth_of g)) }
+        ensures memory { KeepsAllButMemory self.old self.new }
+        ensures made { GivesMade self.new result }
     {
         if self.can_shift(v, x) {
             self.shift_suiting(minus, pointer_first, size, v, x, told)
@@ -71,10 +71,10 @@ impl World {
         requires right { IsMadeWorth self.old.memory.table (worth_of x.now) }
         requires left_count { IsSmall (worth_of v.now) }
         requires right_count { IsSmall (worth_of x.now) }
-        ensures did { Did worth_of (moves minus pointer_first size (worth_of v.now) (worth_of x.now)) result self.old self.new told.old.items told.new.items }
+        ensures did { DidAndTold worth_of (moves minus pointer_first size (worth_of v.now) (worth_of x.now)) result self.old self.new told.old told.new }
         ensures later { IsLater self.old.memory.table self.new.memory.table }
-        ensures memory { self.new ≡ record self.old { memory = self.new.memory } }
-        ensures made { IfOk result (λ g. IsMadeWorth self.new.memory.table (worth_of g)) }
+        ensures memory { KeepsAllButMemory self.old self.new }
+        ensures made { GivesMade self.new result }
     {
         if let Some(cause) = unplain(v) {
             return Err(fail(told, cause, None));
@@ -93,10 +93,10 @@ impl World {
     #[tactic(auto, using(crate::proofs::Comings::came_fails, crate::proofs::Laters::later_itself, crate::proofs::Laters::made_later))]
     fn shift_pointer(&mut self, p: Pointer, by: i128, told: &mut Vec<What>) -> Result<Got, Failure>
         requires { IsMadeIn self.old.memory.table p.prov }
-        ensures did { Did worth_of (λ w. moved_by w p (shift w.memory.table p by)) result self.old self.new told.old.items told.new.items }
+        ensures did { DidAndTold worth_of (λ w. moved_by w p (shift w.memory.table p by)) result self.old self.new told.old told.new }
         ensures later { IsLater self.old.memory.table self.new.memory.table }
-        ensures memory { self.new ≡ record self.old { memory = self.new.memory } }
-        ensures made { IfOk result (λ g. IsMadeWorth self.new.memory.table (worth_of g)) }
+        ensures memory { KeepsAllButMemory self.old self.new }
+        ensures made { GivesMade self.new result }
     {
         let blame = blame_of(&self.memory, p.prov);
         match self.memory.shift(p, by) {
@@ -111,10 +111,10 @@ impl World {
     /// The place of a member (6.5.2.3), or the end of the run as by a missing value.
     #[tactic(auto, using(crate::proofs::Guards::suited, crate::proofs::Guards::unsuited, crate::proofs::Laters::later_itself))]
     pub fn select(&mut self, offset: u64, v: &Got, told: &mut Vec<What>) -> Result<Got, Failure>
-        ensures did { Did worth_of (where_suiting (knows_worth self.old.memory.table (worth_of v.now)) (selects offset (worth_of v.now))) result self.old self.new told.old.items told.new.items }
+        ensures did { DidAndTold worth_of (where_suiting (knows_worth self.old.memory.table (worth_of v.now)) (selects offset (worth_of v.now))) result self.old self.new told.old told.new }
         ensures later { IsLater self.old.memory.table self.new.memory.table }
-        ensures memory { self.new ≡ record self.old { memory = self.new.memory } }
-        ensures made { IfOk result (λ g. IsMadeWorth self.new.memory.table (worth_of g)) }
+        ensures memory { KeepsAllButMemory self.old self.new }
+        ensures made { GivesMade self.new result }
     {
         if self.knows(v) {
             self.select_suiting(offset, v, told)
@@ -127,10 +127,10 @@ impl World {
     #[tactic(auto, using(crate::proofs::Comings::came_fails, crate::proofs::Laters::later_itself, crate::proofs::Laters::made_later))]
     fn select_suiting(&mut self, offset: u64, v: &Got, told: &mut Vec<What>) -> Result<Got, Failure>
         requires { IsMadeWorth self.old.memory.table (worth_of v.now) }
-        ensures did { Did worth_of (selects offset (worth_of v.now)) result self.old self.new told.old.items told.new.items }
+        ensures did { DidAndTold worth_of (selects offset (worth_of v.now)) result self.old self.new told.old told.new }
         ensures later { IsLater self.old.memory.table self.new.memory.table }
-        ensures memory { self.new ≡ record self.old { memory = self.new.memory } }
-        ensures made { IfOk result (λ g. IsMadeWorth self.new.memory.table (worth_of g)) }
+        ensures memory { KeepsAllButMemory self.old self.new }
+        ensures made { GivesMade self.new result }
     {
         match unpresent(v) {
             Some(cause) => Err(fail(told, cause, None)),
@@ -142,10 +142,10 @@ impl World {
     #[tactic(auto, using(crate::proofs::Comings::came_fails, crate::proofs::Laters::later_itself, crate::proofs::Laters::made_later))]
     fn select_in(&mut self, offset: u64, p: Pointer, told: &mut Vec<What>) -> Result<Got, Failure>
         requires { IsMadeIn self.old.memory.table p.prov }
-        ensures did { Did worth_of (λ w. moved_by w p (select w.memory.table p offset)) result self.old self.new told.old.items told.new.items }
+        ensures did { DidAndTold worth_of (λ w. moved_by w p (select w.memory.table p offset)) result self.old self.new told.old told.new }
         ensures later { IsLater self.old.memory.table self.new.memory.table }
-        ensures memory { self.new ≡ record self.old { memory = self.new.memory } }
-        ensures made { IfOk result (λ g. IsMadeWorth self.new.memory.table (worth_of g)) }
+        ensures memory { KeepsAllButMemory self.old self.new }
+        ensures made { GivesMade self.new result }
     {
         let blame = blame_of(&self.memory, p.prov);
         match self.memory.select(p, offset) {

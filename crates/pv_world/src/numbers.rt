@@ -1,5 +1,5 @@
 // Pointers as numbers, and numbers as pointers (6.3.2.3p5, p6).
-ghost use Rattle.std.specs.Prelude.{◌≡◌, ◌++◌, OnOk, IfOk};
+ghost use Rattle.std.specs.Prelude.{◌≡◌, OnOk};
 ghost use Rattle.pv_inst.specs.Table.{IsMadeIn};
 ghost use Rattle.pv_object.specs.Later.{IsLater};
 ghost use Rattle.pv_object.specs.Operations.{to_int, to_ptr};
@@ -7,7 +7,7 @@ ghost use Rattle.pv_world.specs.Worlds.{with_table};
 ghost use Rattle.pv_world.specs.Telling.{exposures, all_told};
 ghost use Rattle.pv_world.specs.Worths.{why_not_set, int_of, pointer_of};
 ghost use Rattle.pv_world.specs.Conversions.{converts, number_by, pointer_by_number};
-ghost use Rattle.pv_world.specs.Coming.{Did, worth_of, IsMadeWorth};
+ghost use Rattle.pv_world.specs.Coming.{worth_of, IsMadeWorth, KeepsAllButMemory, GivesMade, DidAndTold, Tells};
 
 use crate::failing::{blame_of, fail, stopped_after};
 use crate::got::{Failure, Got, How};
@@ -29,10 +29,10 @@ impl World {
         told: &mut Vec<What>,
     ) -> Result<Got, Failure>
         requires { IsMadeWorth self.old.memory.table (worth_of v.now) }
-        ensures did { Did worth_of (converts (How.Numbers k) (worth_of v.now)) result self.old self.new told.old.items told.new.items }
+        ensures did { DidAndTold worth_of (converts (How.Numbers k) (worth_of v.now)) result self.old self.new told.old told.new }
         ensures later { IsLater self.old.memory.table self.new.memory.table }
-        ensures memory { self.new ≡ record self.old { memory = self.new.memory } }
-        ensures made { IfOk result (λ g. IsMadeWorth self.new.memory.table (worth_of g)) }
+        ensures memory { KeepsAllButMemory self.old self.new }
+        ensures made { GivesMade self.new result }
     {
         match unplain(v) {
             Some(cause) => Err(fail(told, cause, None)),
@@ -44,10 +44,10 @@ impl World {
     #[tactic(auto, using(crate::proofs::Used::number_gave, crate::proofs::Used::number_stops, crate::proofs::Laters::later_itself, crate::proofs::Laters::later_both, crate::proofs::Laters::made_later))]
     fn number_of(&mut self, k: IntKind, p: Pointer, told: &mut Vec<What>) -> Result<Got, Failure>
         requires { IsMadeIn self.old.memory.table p.prov }
-        ensures did { Did worth_of (λ w. number_by w p (to_int w.memory.table p k)) result self.old self.new told.old.items told.new.items }
+        ensures did { DidAndTold worth_of (λ w. number_by w p (to_int w.memory.table p k)) result self.old self.new told.old told.new }
         ensures later { IsLater self.old.memory.table self.new.memory.table }
-        ensures memory { self.new ≡ record self.old { memory = self.new.memory } }
-        ensures made { IfOk result (λ g. IsMadeWorth self.new.memory.table (worth_of g)) }
+        ensures memory { KeepsAllButMemory self.old self.new }
+        ensures made { GivesMade self.new result }
     {
         let blame = blame_of(&self.memory, p.prov);
         let (n, tried) = match self.memory.to_int(p, k) {
@@ -66,10 +66,10 @@ impl World {
     // What became exposed and was not told of.
     #[tactic(auto, using(crate::proofs::Laters::later_itself, crate::proofs::Laters::later_kept))]
     pub(crate) fn tell_exposures(&mut self, told: &mut Vec<What>) -> Result<(), NoMemory>
-        ensures told { OnOk result (told.new.items ≡ told.old.items ++ exposures self.old.memory.table) }
+        ensures told { OnOk result (Tells told.old told.new (exposures self.old.memory.table)) }
         ensures state { OnOk result (self.new ≡ with_table self.old (all_told self.old.memory.table)) }
         ensures later { IsLater self.old.memory.table self.new.memory.table }
-        ensures memory { self.new ≡ record self.old { memory = self.new.memory } }
+        ensures memory { KeepsAllButMemory self.old self.new }
     {
         tell_exposed(told, &mut self.memory)
     }
@@ -77,10 +77,10 @@ impl World {
     // An integer to a pointer type (6.3.2.3p5).
     #[tactic(auto, using(crate::proofs::Comings::came_fails, crate::proofs::Laters::later_itself, crate::proofs::Laters::later_both, crate::proofs::Laters::made_later))]
     pub(crate) fn point(&mut self, v: &Got, told: &mut Vec<What>) -> Result<Got, Failure>
-        ensures did { Did worth_of (converts How.Points (worth_of v.now)) result self.old self.new told.old.items told.new.items }
+        ensures did { DidAndTold worth_of (converts How.Points (worth_of v.now)) result self.old self.new told.old told.new }
         ensures later { IsLater self.old.memory.table self.new.memory.table }
-        ensures memory { self.new ≡ record self.old { memory = self.new.memory } }
-        ensures made { IfOk result (λ g. IsMadeWorth self.new.memory.table (worth_of g)) }
+        ensures memory { KeepsAllButMemory self.old self.new }
+        ensures made { GivesMade self.new result }
     {
         match unplain(v) {
             Some(cause) => Err(fail(told, cause, None)),
@@ -91,10 +91,10 @@ impl World {
     // The pointer of a number; two instances that fit make a pair.
     #[tactic(auto, using(crate::proofs::Comings::came_fails, crate::proofs::Laters::later_itself, crate::proofs::Laters::later_both, crate::proofs::Laters::made_later))]
     fn pointer_at(&mut self, n: i128, told: &mut Vec<What>) -> Result<Got, Failure>
-        ensures did { Did worth_of (λ w. pointer_by_number w (to_ptr w.memory.table n)) result self.old self.new told.old.items told.new.items }
+        ensures did { DidAndTold worth_of (λ w. pointer_by_number w (to_ptr w.memory.table n)) result self.old self.new told.old told.new }
         ensures later { IsLater self.old.memory.table self.new.memory.table }
-        ensures memory { self.new ≡ record self.old { memory = self.new.memory } }
-        ensures made { IfOk result (λ g. IsMadeWorth self.new.memory.table (worth_of g)) }
+        ensures memory { KeepsAllButMemory self.old self.new }
+        ensures made { GivesMade self.new result }
     {
         let before = self.memory.instances().pairs_made();
         match self.memory.to_ptr(n) {

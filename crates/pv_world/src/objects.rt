@@ -1,12 +1,12 @@
 // Objects: their places, their making and their end.
-ghost use Rattle.std.specs.Prelude.{◌≡◌, ◌≤◌, ◌<◌, ◌+◌, ◌-◌, ◌++◌, ◌≢◌, Some, None, length, codes, OnOk};
+ghost use Rattle.std.specs.Prelude.{◌≡◌, ◌≤◌, ◌<◌, ◌-◌, ◌≢◌, Some, None, length, codes, OnOk};
 ghost use Rattle.pv_script.specs.Names.{name_at as text_of};
 ghost use Rattle.pv_inst.specs.Answers.{IsLive};
 ghost use Rattle.pv_world.specs.Objects.{instance_of, literal_of, function_of, address_of, owning, bind, makes_object, ends_object, object_request};
 ghost use Rattle.pv_world.specs.ObjectParts.{owned_next};
 ghost use Rattle.pv_world.specs.Telling.{event_of_making};
 ghost use Rattle.pv_watch.specs.declared.event.What.{What};
-ghost use Rattle.pv_world.specs.Coming.{Did, no_worth, CameMade, coming_of};
+ghost use Rattle.pv_world.specs.Coming.{no_worth, CameMade, coming_of, DidAndTold, Tells};
 
 use crate::got::Failure;
 use crate::telling::{tell, tell_made};
@@ -128,7 +128,7 @@ impl World {
     ) -> Result<(), NoMemory>
         requires { IsLive self.old.memory.table.instances i }
         ensures world { OnOk result (self.new ≡ bind (owning self.old self.old.memory i (Some object)) object lasting i) }
-        ensures told { OnOk result (told.new.items ≡ told.old.items ++ event_of_making self.old.memory.table i) }
+        ensures told { OnOk result (Tells told.old told.new (event_of_making self.old.memory.table i)) }
     {
         match own(&mut self.owners, i, Some(object)) {
             Ok(()) => {}
@@ -143,7 +143,7 @@ impl World {
     /// An object ends its lifetime (6.2.4).
     pub fn end(&mut self, object: u32, lasting: bool, told: &mut Vec<What>) -> Result<(), Failure>
         requires { IsLive self.old.memory.table.instances (instance_of self.old object lasting) }
-        ensures did { Did no_worth (ends_object object lasting) result self.old self.new told.old.items told.new.items }
+        ensures did { DidAndTold no_worth (ends_object object lasting) result self.old self.new told.old told.new }
     {
         let i = self.instance(object, lasting);
         self.memory.end(i);

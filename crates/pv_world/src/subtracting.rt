@@ -1,12 +1,12 @@
 // Differences of pointers (6.5.6p9).
-ghost use Rattle.std.specs.Prelude.{◌≡◌, ◌≤◌, ◌++◌, ◌-ℤ◌, ◌&&◌, nat_le, pos, OnOk, IfOk};
+ghost use Rattle.std.specs.Prelude.{◌≡◌, ◌≤◌, ◌++◌, ◌-ℤ◌, ◌&&◌, nat_le, pos, OnOk};
 ghost use Rattle.pv_inst.specs.Table.{IsMadeIn};
 ghost use Rattle.pv_object.specs.Later.{IsLater};
 ghost use Rattle.pv_world.specs.Telling.{event_of_use};
 ghost use Rattle.pv_world.specs.Pointers.{subtracts, in_elements};
 ghost use Rattle.pv_world.specs.PointerParts.{between};
 ghost use Rattle.pv_world.specs.Suiting.{where_suiting, knows_both};
-ghost use Rattle.pv_world.specs.Coming.{Did, worth_of, IsMadeWorth};
+ghost use Rattle.pv_world.specs.Coming.{worth_of, IsMadeWorth, KeepsAllButMemory, GivesMade, DidAndTold, Tells};
 
 use crate::failing::{blame_of, fail, stopped};
 use crate::got::{Failure, Got};
@@ -26,7 +26,7 @@ pub(crate) fn tell_both(
     left: Tried,
     right: Tried,
 ) -> Result<(), NoMemory>
-    ensures { OnOk result (told.new.items ≡ told.old.items ++ (event_of_use test left ++ event_of_use test right)) }
+    ensures { OnOk result (Tells told.old told.new (event_of_use test left ++ event_of_use test right)) }
 {
     match tell_used(told, test, left) {
         Ok(()) => tell_used(told, test, right),
@@ -58,10 +58,10 @@ impl World {
         x: &Got,
         told: &mut Vec<What>,
     ) -> Result<Got, Failure>
-        ensures did { Did worth_of (where_suiting (nat_le 1 size && knows_both self.old.memory.table (worth_of v.now) (worth_of x.now)) (subtracts size (worth_of v.now) (worth_of x.now))) result self.old self.new told.old.items told.new.items }
+        ensures did { DidAndTold worth_of (where_suiting (nat_le 1 size && knows_both self.old.memory.table (worth_of v.now) (worth_of x.now)) (subtracts size (worth_of v.now) (worth_of x.now))) result self.old self.new told.old told.new }
         ensures later { IsLater self.old.memory.table self.new.memory.table }
-        ensures memory { self.new ≡ record self.old { memory = self.new.memory } }
-        ensures made { IfOk result (λ g. IsMadeWorth self.new.memory.table (worth_of g)) }
+        ensures memory { KeepsAllButMemory self.old self.new }
+        ensures made { GivesMade self.new result }
     {
         if self.can_subtract(size, v, x) {
             self.subtract_suiting(size, v, x, told)
@@ -82,10 +82,10 @@ impl World {
         requires sized { 1 ≤ size }
         requires left { IsMadeWorth self.old.memory.table (worth_of v.now) }
         requires right { IsMadeWorth self.old.memory.table (worth_of x.now) }
-        ensures did { Did worth_of (subtracts size (worth_of v.now) (worth_of x.now)) result self.old self.new told.old.items told.new.items }
+        ensures did { DidAndTold worth_of (subtracts size (worth_of v.now) (worth_of x.now)) result self.old self.new told.old told.new }
         ensures later { IsLater self.old.memory.table self.new.memory.table }
-        ensures memory { self.new ≡ record self.old { memory = self.new.memory } }
-        ensures made { IfOk result (λ g. IsMadeWorth self.new.memory.table (worth_of g)) }
+        ensures memory { KeepsAllButMemory self.old self.new }
+        ensures made { GivesMade self.new result }
     {
         if let Some(cause) = unplain(v) {
             return Err(fail(told, cause, None));
@@ -109,10 +109,10 @@ impl World {
         requires sized { 1 ≤ size }
         requires left { IsMadeIn self.old.memory.table p.prov }
         requires right { IsMadeIn self.old.memory.table q.prov }
-        ensures did { Did worth_of (between size p q) result self.old self.new told.old.items told.new.items }
+        ensures did { DidAndTold worth_of (between size p q) result self.old self.new told.old told.new }
         ensures later { IsLater self.old.memory.table self.new.memory.table }
-        ensures memory { self.new ≡ record self.old { memory = self.new.memory } }
-        ensures made { IfOk result (λ g. IsMadeWorth self.new.memory.table (worth_of g)) }
+        ensures memory { KeepsAllButMemory self.old self.new }
+        ensures made { GivesMade self.new result }
     {
         let blame = blame_of(&self.memory, p.prov);
         let (_, left, right) = match self.memory.subtract(p, q, 1) {

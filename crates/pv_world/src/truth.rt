@@ -1,12 +1,12 @@
 // The truth of a value (6.5.13 to 6.5.15, 6.8.4, 6.8.5).
-ghost use Rattle.std.specs.Prelude.{◌≡◌, Bool, IfOk};
+ghost use Rattle.std.specs.Prelude.{Bool};
 ghost use Rattle.pv_inst.specs.Table.{IsMadeIn};
 ghost use Rattle.pv_object.specs.Later.{IsLater};
 ghost use Rattle.pv_object.specs.Operations.{truth};
 ghost use Rattle.pv_world.specs.Worlds.{Worth};
 ghost use Rattle.pv_world.specs.Suiting.{where_suiting, knows_worth};
 ghost use Rattle.pv_world.specs.Conversions.{tests, opposite, truth_by};
-ghost use Rattle.pv_world.specs.Coming.{Did, worth_of, IsMadeWorth};
+ghost use Rattle.pv_world.specs.Coming.{worth_of, IsMadeWorth, KeepsAllButMemory, GivesMade, DidAndTold};
 
 use crate::failing::{blame_of, fail, stopped};
 use crate::got::{Cause, Failure, Got};
@@ -23,9 +23,9 @@ impl World {
     /// A value compared with 0 (6.5.13 to 6.5.15, 6.8.4, 6.8.5), or the end of the run as by a missing one.
     #[tactic(auto, using(crate::proofs::Guards::suited, crate::proofs::Guards::unsuited, crate::proofs::Laters::later_itself))]
     pub fn test(&mut self, v: &Got, told: &mut Vec<What>) -> Result<bool, Failure>
-        ensures did { (give : Bool → Worth) → Did give (where_suiting (knows_worth self.old.memory.table (worth_of v.now)) (tests give (worth_of v.now))) result self.old self.new told.old.items told.new.items }
+        ensures did { (give : Bool → Worth) → DidAndTold give (where_suiting (knows_worth self.old.memory.table (worth_of v.now)) (tests give (worth_of v.now))) result self.old self.new told.old told.new }
         ensures later { IsLater self.old.memory.table self.new.memory.table }
-        ensures memory { self.new ≡ record self.old { memory = self.new.memory } }
+        ensures memory { KeepsAllButMemory self.old self.new }
     {
         if self.knows(v) {
             self.test_suiting(v, told)
@@ -36,10 +36,10 @@ impl World {
 
     /// The same, turned round (6.5.3.3p5).
     pub fn negate(&mut self, v: &Got, told: &mut Vec<What>) -> Result<Got, Failure>
-        ensures did { Did worth_of (where_suiting (knows_worth self.old.memory.table (worth_of v.now)) (tests opposite (worth_of v.now))) result self.old self.new told.old.items told.new.items }
+        ensures did { DidAndTold worth_of (where_suiting (knows_worth self.old.memory.table (worth_of v.now)) (tests opposite (worth_of v.now))) result self.old self.new told.old told.new }
         ensures later { IsLater self.old.memory.table self.new.memory.table }
-        ensures memory { self.new ≡ record self.old { memory = self.new.memory } }
-        ensures made { IfOk result (λ g. IsMadeWorth self.new.memory.table (worth_of g)) }
+        ensures memory { KeepsAllButMemory self.old self.new }
+        ensures made { GivesMade self.new result }
     {
         match self.test(v, told) {
             Ok(t) => Ok(truth_value(!t)),
@@ -51,9 +51,9 @@ impl World {
     #[tactic(auto, using(crate::proofs::Comings::came_fails, crate::proofs::Laters::later_itself, crate::proofs::Laters::later_both, crate::proofs::Laters::made_later))]
     pub(crate) fn test_suiting(&mut self, v: &Got, told: &mut Vec<What>) -> Result<bool, Failure>
         requires { IsMadeWorth self.old.memory.table (worth_of v.now) }
-        ensures did { (give : Bool → Worth) → Did give (tests give (worth_of v.now)) result self.old self.new told.old.items told.new.items }
+        ensures did { (give : Bool → Worth) → DidAndTold give (tests give (worth_of v.now)) result self.old self.new told.old told.new }
         ensures later { IsLater self.old.memory.table self.new.memory.table }
-        ensures memory { self.new ≡ record self.old { memory = self.new.memory } }
+        ensures memory { KeepsAllButMemory self.old self.new }
     {
         match v {
             Got::Missing => Err(fail(told, missing(), None)),
@@ -68,9 +68,9 @@ impl World {
     #[tactic(auto, using(crate::proofs::Comings::came_fails, crate::proofs::Laters::later_itself, crate::proofs::Laters::later_both, crate::proofs::Laters::made_later))]
     fn test_pointer(&mut self, p: Pointer, told: &mut Vec<What>) -> Result<bool, Failure>
         requires { IsMadeIn self.old.memory.table p.prov }
-        ensures did { (give : Bool → Worth) → Did give (λ w. truth_by w p (truth w.memory.table p) give) result self.old self.new told.old.items told.new.items }
+        ensures did { (give : Bool → Worth) → DidAndTold give (λ w. truth_by w p (truth w.memory.table p) give) result self.old self.new told.old told.new }
         ensures later { IsLater self.old.memory.table self.new.memory.table }
-        ensures memory { self.new ≡ record self.old { memory = self.new.memory } }
+        ensures memory { KeepsAllButMemory self.old self.new }
     {
         let blame = blame_of(&self.memory, p.prov);
         match self.memory.truth(p) {
