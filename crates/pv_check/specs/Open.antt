@@ -1,5 +1,5 @@
 -- A bridge: what the scopes and the tables stand for together, and what typing keeps true of them.
-use Rattle.std.specs.Prelude.{◌≡◌, ℕ, ◌<◌, Bool, if◌then◌else◌, Some, None, List, map, length}
+use Rattle.std.specs.Prelude.{◌≡◌, ℕ, ◌<◌, Bool, false, if◌then◌else◌, Some, None, IfSome, List, map, length, Result, IfOk}
 use Rattle.std.specs.declared.option.Option.{Option}
 use Rattle.pv_types.specs.declared.terms.TypeId.{TypeId}
 use Rattle.pv_types.specs.Known.{tree, env, heading_at}
@@ -19,6 +19,22 @@ use Rattle.pv_check.specs.State.{State, After}
 -- the state that scopes and tables stand for; the texts of string literals, and whether what is typed is not evaluated, come with it
 abbrev pub state_of : List (List ℕ) → Bool → Raw → Stored → State
 state_of texts unevaluated s m = record { scopes = scopes_shown m.known s.scopes; unit = whole_unit m; texts = texts; used = map used_of s.used; unevaluated = unevaluated }
+
+-- the texts of the string literals of a unit (6.4.5p6), by their numbers
+abbrev pub Texts : Type 0
+Texts = List (List ℕ)
+
+-- the state of what is evaluated
+abbrev pub state_in : Texts → Raw → Stored → State
+state_in texts s m = state_of texts false s m
+
+-- tables grew, and the state that they stand for is as it was
+abbrev pub KeepsState : Raw → (old new : Stored) → Type 0
+KeepsState s old new = (texts : Texts) → state_in texts s new ≡ state_in texts s old
+
+-- what typing answers is so, unless memory is wanting or a constraint is not met, where there is no answer
+abbrev pub IfAnswered : {A E : Type 0} → Result (Option A) E → (A → Type 0) → Type 0
+IfAnswered result IsAnswer = IfOk result (λ r. IfSome r IsAnswer)
 
 -- what a name designates is there (6.2.1p1)
 abbrev pub EntryKnown : Stored → Entry → Type 0

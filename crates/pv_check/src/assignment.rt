@@ -1,5 +1,5 @@
 //! Assignments (C17 6.5.16) and the comma (C17 6.5.17).
-ghost use Rattle.std.specs.Prelude.{◌≡◌, ◌<◌, IfOk, IfSome, OnOk, length, Some, None, if◌then◌else◌};
+ghost use Rattle.std.specs.Prelude.{◌≡◌, ◌<◌, IfOk, OnOk, length, Some, None, if◌then◌else◌};
 ghost use Rattle.pv_types.specs.Known.{tree};
 ghost use Rattle.pv_typed.specs.TypedTree.{type_of, Assign, CompoundAssign, PointerAssign};
 ghost use Rattle.pv_typed.specs.NodeTrees.{expression_at, IsExpression};
@@ -11,6 +11,7 @@ ghost use Rattle.pv_check.specs.Values.{source_node, conversion_to, may_point, m
 ghost use Rattle.pv_check.specs.ValueParts.{assigned_with};
 ghost use Rattle.pv_check.specs.Assignment.{compound_at, arithmetic_assign, shift_assign, comma_of};
 ghost use Rattle.pv_check.specs.AssignmentParts.{pointer_assign, assigned_to};
+ghost use Rattle.pv_check.specs.Open.{IfAnswered};
 
 use crate::kinds::common;
 use crate::sorts::{are_alike, complete_pointed_by, has_void, is_const, kind_of, same};
@@ -62,7 +63,7 @@ pub fn assigned_as(
     requires known { AreKnown into.old }
     requires target { t.0 < length into.old.known.terms }
     requires node { IsExpression into.old a }
-    ensures node { IfOk result (λ r. IfSome r (λ v. IsExpression into.new v)) }
+    ensures node { IfAnswered result (IsExpression into.new) }
     ensures typed { IfOk result (λ r. expression_if into.new r ≡ assigned_with null (tree into.old.known t.0) (expression_at into.old a)) }
     ensures kept { OnOk result (Kept into.old into.new) }
 {
@@ -85,7 +86,7 @@ pub(crate) fn assign_to(
     requires known { AreKnown into.old }
     requires left { IsExpression into.old a }
     requires right { IsExpression into.old b }
-    ensures node { IfOk result (λ r. IfSome r (λ v. IsExpression into.new v)) }
+    ensures node { IfAnswered result (IsExpression into.new) }
     ensures typed { IfOk result (λ r. expression_if into.new r ≡ assigned_to line (expression_at into.old a) (Some (expression_at into.old b))) }
     ensures kept { OnOk result (Kept into.old into.new) }
 {
@@ -107,7 +108,7 @@ fn compound_at(
     requires known { AreKnown into.old }
     requires left { IsExpression into.old a }
     requires right { IsExpression into.old b }
-    ensures node { IfOk result (λ r. IfSome r (λ v. IsExpression into.new v)) }
+    ensures node { IfAnswered result (IsExpression into.new) }
     ensures typed { IfOk result (λ r. expression_if into.new r ≡ compound_at line op (expression_at into.old a) (expression_at into.old b) kind right) }
     ensures kept { OnOk result (Kept into.old into.new) }
 {
@@ -138,7 +139,7 @@ pub(crate) fn arithmetic_assign(
     requires known { AreKnown into.old }
     requires left { IsExpression into.old a }
     requires right { IsExpression into.old b }
-    ensures node { IfOk result (λ r. IfSome r (λ v. IsExpression into.new v)) }
+    ensures node { IfAnswered result (IsExpression into.new) }
     ensures typed { IfOk result (λ r. expression_if into.new r ≡ arithmetic_assign line op (expression_at into.old a) (expression_at into.old b)) }
     ensures kept { OnOk result (Kept into.old into.new) }
 {
@@ -164,7 +165,7 @@ pub(crate) fn shift_assign(
     requires known { AreKnown into.old }
     requires left { IsExpression into.old a }
     requires right { IsExpression into.old b }
-    ensures node { IfOk result (λ r. IfSome r (λ v. IsExpression into.new v)) }
+    ensures node { IfAnswered result (IsExpression into.new) }
     ensures typed { IfOk result (λ r. expression_if into.new r ≡ shift_assign line op (expression_at into.old a) (expression_at into.old b)) }
     ensures kept { OnOk result (Kept into.old into.new) }
 {
@@ -189,7 +190,7 @@ pub(crate) fn pointer_assign(
     requires known { AreKnown into.old }
     requires left { IsExpression into.old a }
     requires right { IsExpression into.old b }
-    ensures node { IfOk result (λ r. IfSome r (λ v. IsExpression into.new v)) }
+    ensures node { IfAnswered result (IsExpression into.new) }
     ensures typed { IfOk result (λ r. expression_if into.new r ≡ pointer_assign (env_of into.old) line sign (expression_at into.old a) (expression_at into.old b)) }
     ensures kept { OnOk result (Kept into.old into.new) }
 {
@@ -215,7 +216,7 @@ pub(crate) fn comma(
     requires known { AreKnown into.old }
     requires left { IsExpression into.old a }
     requires right { IsExpression into.old b }
-    ensures node { IfOk result (λ r. IfSome r (λ v. IsExpression into.new v)) }
+    ensures node { IfAnswered result (IsExpression into.new) }
     ensures typed { IfOk result (λ r. expression_if into.new r ≡ Some (comma_of line (expression_at into.old a) (expression_at into.old b))) }
     ensures kept { OnOk result (Kept into.old into.new) }
 {

@@ -1,5 +1,5 @@
 //! Calls of functions (C17 6.5.2.2) whose arguments are typed.
-ghost use Rattle.std.specs.Prelude.{◌≡◌, ◌<◌, ◌≤◌, ℕ, Bool, List, Some, map, drop, length, IfOk, IfSome, OnOk};
+ghost use Rattle.std.specs.Prelude.{◌≡◌, ◌<◌, ◌≤◌, Bool, Some, map, drop, length, IfOk, IfSome, OnOk};
 ghost use Rattle.pv_types.specs.Known.{tree, trees, tys_in};
 ghost use Rattle.pv_types.specs.Formed.{parameters_at, AllBelow};
 ghost use Rattle.pv_typed.specs.Known.{Each, AreKnown};
@@ -12,7 +12,7 @@ ghost use Rattle.pv_check.specs.Calls.{further_argument, passed_arguments, strin
 ghost use Rattle.pv_check.specs.CallParts.{called_by_name, call_through, call_of, is_format_literal, pointed_call, library_call, program_call};
 ghost use Rattle.pv_check.specs.Kept.{Kept, expression_if};
 ghost use Rattle.pv_library.specs.LibraryNames.{library_named};
-ghost use Rattle.pv_check.specs.Open.{state_of, IsOpen};
+ghost use Rattle.pv_check.specs.Open.{state_of, IsOpen, Texts, IfAnswered};
 ghost use Rattle.pv_check.specs.Passing.{one_passed, trees_if, arguments_after};
 ghost use Rattle.pv_check.specs.RowParts.{call};
 ghost use Rattle.pv_check.specs.Rows.{function_in, callee, call_by};
@@ -40,7 +40,7 @@ fn callee(s: &Scopes, u: &Unit, into: &TypedUnit, n: NodeId) -> Option<u32>
     requires node { Is u.now is_expression n }
     requires open { IsOpen into.now s.now }
     ensures known { IfSome result (λ f. f < length into.now.functions) }
-    ensures value { (texts : List (List ℕ)) (hidden : Bool) → result ≡ callee (state_of texts hidden s.now into.now).scopes (expression_of_node u.now.forest n) }
+    ensures value { (texts : Texts) (hidden : Bool) → result ≡ callee (state_of texts hidden s.now into.now).scopes (expression_of_node u.now.forest n) }
 {
     match u.expr(n) {
         Expr::Name(name) => function_named(s, into, name),
@@ -81,8 +81,8 @@ pub(crate) fn used_callee(
     requires node { Is u.now is_expression n }
     requires open { IsOpen into.now s.old }
     ensures open { OnOk result (IsOpen into.now s.new) }
-    ensures known { IfOk result (λ r. IfSome r (λ f. f < length into.now.functions)) }
-    ensures value { IfOk result (λ r. (texts : List (List ℕ)) (hidden : Bool) → AreCalled texts hidden s.new into.now (expression_of_node u.now.forest n) (state_of texts hidden s.old into.now) r) }
+    ensures known { IfAnswered result (λ f. f < length into.now.functions) }
+    ensures value { IfOk result (λ r. (texts : Texts) (hidden : Bool) → AreCalled texts hidden s.new into.now (expression_of_node u.now.forest n) (state_of texts hidden s.old into.now) r) }
 {
     let Some(f) = callee(s, u, into, n) else {
         return Ok(None);
@@ -95,7 +95,7 @@ pub(crate) fn used_callee(
 fn further(into: &mut TypedUnit, a: NodeId) -> Result<Option<NodeId>, NoMemory>
     requires known { AreKnown into.old }
     requires node { IsExpression into.old a }
-    ensures node { IfOk result (λ r. IfSome r (λ v. IsExpression into.new v)) }
+    ensures node { IfAnswered result (IsExpression into.new) }
     ensures typed { IfOk result (λ r. expression_if into.new r ≡ further_argument (expression_at into.old a)) }
     ensures kept { OnOk result (Kept into.old into.new) }
 {
@@ -117,7 +117,7 @@ fn argument(
     requires known { AreKnown into.old }
     requires types { AllBelow (length into.old.known.terms) types.now }
     requires node { IsExpression into.old a }
-    ensures node { IfOk result (λ r. IfSome r (λ v. IsExpression into.new v)) }
+    ensures node { IfAnswered result (IsExpression into.new) }
     ensures typed { IfOk result (λ r. expression_if into.new r ≡ one_passed (tys_in (trees into.old.known) (drop i types.now)) variadic (expression_at into.old a)) }
     ensures kept { OnOk result (Kept into.old into.new) }
 {
@@ -141,7 +141,7 @@ fn passed(
     requires known { AreKnown into.old }
     requires types { AllBelow (length into.old.known.terms) types.now }
     requires nodes { Each (IsExpression into.old) args.now }
-    ensures nodes { IfOk result (λ r. IfSome r (λ v. Each (IsExpression into.new) v.items)) }
+    ensures nodes { IfAnswered result (λ v. Each (IsExpression into.new) v.items) }
     ensures typed { IfOk result (λ r. trees_if into.new r ≡ passed_arguments (tys_in (trees into.old.known) types.now) variadic (map (expression_at into.old) args.now)) }
     ensures kept { OnOk result (Kept into.old into.new) }
 {
@@ -232,7 +232,7 @@ fn library_call(
     requires known { AreKnown into.old }
     requires target { t.0 < length into.old.known.terms }
     requires nodes { Each (IsExpression into.old) args.now }
-    ensures node { IfOk result (λ r. IfSome r (λ v. IsExpression into.new v)) }
+    ensures node { IfAnswered result (IsExpression into.new) }
     ensures typed { IfOk result (λ r. expression_if into.new r ≡ library_call (whole_unit into.old) line f (tree into.old.known t.0) (Some (map (expression_at into.old) args.now))) }
     ensures kept { OnOk result (Kept into.old into.new) }
 {
@@ -256,7 +256,7 @@ fn program_call(
     requires function { f < length into.old.functions }
     requires target { t.0 < length into.old.known.terms }
     requires nodes { Each (IsExpression into.old) args.now }
-    ensures node { IfOk result (λ r. IfSome r (λ v. IsExpression into.new v)) }
+    ensures node { IfAnswered result (IsExpression into.new) }
     ensures typed { IfOk result (λ r. expression_if into.new r ≡ program_call line f (tree into.old.known t.0) (Some (map (expression_at into.old) args.now))) }
     ensures kept { OnOk result (Kept into.old into.new) }
 {
@@ -287,7 +287,7 @@ fn called(
     requires function { f < length into.old.functions }
     requires target { t.0 < length into.old.known.terms }
     requires nodes { Each (IsExpression into.old) args.now }
-    ensures node { IfOk result (λ r. IfSome r (λ v. IsExpression into.new v)) }
+    ensures node { IfAnswered result (IsExpression into.new) }
     ensures typed { IfOk result (λ r. expression_if into.new r ≡ called_by_name (whole_unit into.old) line f (tree into.old.known t.0) (Some (map (expression_at into.old) args.now))) }
     ensures kept { OnOk result (Kept into.old into.new) }
 {
@@ -313,7 +313,7 @@ fn call_with(
     requires target { t.0 < length into.old.known.terms }
     requires list { params < length into.old.known.lists }
     requires nodes { Each (IsExpression into.old) args.now }
-    ensures node { IfOk result (λ r. IfSome r (λ v. IsExpression into.new v)) }
+    ensures node { IfAnswered result (IsExpression into.new) }
     ensures typed { IfOk result (λ r. expression_if into.new r ≡ called_by_name (whole_unit into.old) line f (tree into.old.known t.0) (passed_arguments (parameters_at into.old.known params) variadic (map (expression_at into.old) args.now))) }
     ensures kept { OnOk result (Kept into.old into.new) }
 {
@@ -344,7 +344,7 @@ fn pointed_call(
     requires callee { IsExpression into.old a }
     requires target { t.0 < length into.old.known.terms }
     requires nodes { Each (IsExpression into.old) args.now }
-    ensures node { IfOk result (λ r. IfSome r (λ v. IsExpression into.new v)) }
+    ensures node { IfAnswered result (IsExpression into.new) }
     ensures typed { IfOk result (λ r. expression_if into.new r ≡ pointed_call line (expression_at into.old a) (tree into.old.known t.0) (Some (map (expression_at into.old) args.now))) }
     ensures kept { OnOk result (Kept into.old into.new) }
 {
@@ -369,7 +369,7 @@ fn call_pointer(
     requires target { t.0 < length into.old.known.terms }
     requires list { params < length into.old.known.lists }
     requires nodes { Each (IsExpression into.old) args.now }
-    ensures node { IfOk result (λ r. IfSome r (λ v. IsExpression into.new v)) }
+    ensures node { IfAnswered result (IsExpression into.new) }
     ensures typed { IfOk result (λ r. expression_if into.new r ≡ pointed_call line (expression_at into.old a) (tree into.old.known t.0) (passed_arguments (parameters_at into.old.known params) variadic (map (expression_at into.old) args.now))) }
     ensures kept { OnOk result (Kept into.old into.new) }
 {
@@ -392,7 +392,7 @@ fn call_through(
     requires known { AreKnown into.old }
     requires callee { IsExpression into.old a }
     requires nodes { Each (IsExpression into.old) args.now }
-    ensures node { IfOk result (λ r. IfSome r (λ v. IsExpression into.new v)) }
+    ensures node { IfAnswered result (IsExpression into.new) }
     ensures typed { IfOk result (λ r. expression_if into.new r ≡ call_through (whole_unit into.old) line (expression_at into.old a) (map (expression_at into.old) args.now)) }
     ensures kept { OnOk result (Kept into.old into.new) }
 {
@@ -426,7 +426,7 @@ fn call_of(
     requires known { AreKnown into.old }
     requires function { f < length into.old.functions }
     requires nodes { Each (IsExpression into.old) args.now }
-    ensures node { IfOk result (λ r. IfSome r (λ v. IsExpression into.new v)) }
+    ensures node { IfAnswered result (IsExpression into.new) }
     ensures typed { IfOk result (λ r. expression_if into.new r ≡ call_of (whole_unit into.old) line f (map (expression_at into.old) args.now)) }
     ensures kept { OnOk result (Kept into.old into.new) }
 {
@@ -458,7 +458,7 @@ fn call_by(
     requires known { AreKnown into.old }
     requires callee { CalleeKnown into.old c }
     requires nodes { Each (IsExpression into.old) args.now }
-    ensures node { IfOk result (λ r. IfSome r (λ v. IsExpression into.new v)) }
+    ensures node { IfAnswered result (IsExpression into.new) }
     ensures typed { IfOk result (λ r. expression_if into.new r ≡ call_by (whole_unit into.old) line (callee_in into.old c) (map (expression_at into.old) args.now)) }
     ensures kept { OnOk result (Kept into.old into.new) }
 {
@@ -481,7 +481,7 @@ pub(crate) fn call(
     requires callee { CalleeKnown into.old c }
     requires nodes { Each (IsExpression into.old) args.now }
     ensures open { IfOk result (λ r. OpenIf into.new s.now r) }
-    ensures typed { (texts : List (List ℕ)) → IfOk result (λ r. after_node texts hidden s.now into.new r ≡ call line (callee_in into.old c) (arguments_after texts hidden s.now into.old args.now)) }
+    ensures typed { (texts : Texts) → IfOk result (λ r. after_node texts hidden s.now into.new r ≡ call line (callee_in into.old c) (arguments_after texts hidden s.now into.old args.now)) }
     ensures kept { OnOk result (Kept into.old into.new) }
 {
     let r = call_by(s.allocator(), into, line, c, args)?;

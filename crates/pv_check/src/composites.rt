@@ -1,5 +1,5 @@
 // Members of structures and unions, and their completion (C17 6.7.2.1).
-ghost use Rattle.std.specs.Prelude.{◌≡◌, ◌&&◌, ◌<◌, ◌≤◌, ◌^◌, ◌++◌, ◌∷◌, [], ℕ, Bool, List, Option, nat_le, length, map, IfOk, OnOk, IfSome, IsTrue, Some, None};
+ghost use Rattle.std.specs.Prelude.{◌≡◌, ◌&&◌, ◌<◌, ◌≤◌, ◌^◌, ◌++◌, ◌∷◌, [], Bool, List, Option, nat_le, length, map, IfOk, OnOk, IsTrue, Some, None};
 ghost use Rattle.pv_types.specs.Known.{tree, trees, env, named_in, heading_at};
 ghost use Rattle.pv_types.specs.Formed.{members_in, MembersBelow, NamesDiffer, AreComplete};
 ghost use Rattle.pv_types.specs.Layouts.{look, is_complete_in, layout_in, tag_type};
@@ -8,7 +8,7 @@ ghost use Rattle.pv_typed.specs.Formed.{Grown};
 ghost use Rattle.pv_typed.specs.Known.{AreKnown};
 ghost use Rattle.pv_typed.specs.Entries.{with_completed};
 ghost use Rattle.pv_check.specs.Growing.{AreSized, IsType};
-ghost use Rattle.pv_check.specs.Open.{state_of, IsOpen, Goes, HasTag, after_type};
+ghost use Rattle.pv_check.specs.Open.{state_of, IsOpen, Goes, HasTag, after_type, Texts, IfAnswered};
 ghost use Rattle.pv_check.specs.Tags.{filed_with, completion_of, with_member};
 ghost use Rattle.pv_check.specs.TagParts.{is_new_member, some_members};
 ghost use Rattle.pv_check.specs.Raw.{Raw};
@@ -70,7 +70,7 @@ fn filed(s: &Scopes, into: &mut TypedUnit, name: Option<u32>, t: TypeId) -> Resu
     requires number { t.0 < length into.old.known.terms }
     ensures goes { OnOk result (Goes into.old into.new) }
     ensures types { OnOk result (into.new.known ≡ into.old.known) }
-    ensures state { OnOk result ((texts : List (List ℕ)) (u : Bool) → state_of texts u s.now into.new ≡ filed_with name (tree into.old.known t.0) (state_of texts u s.now into.old)) }
+    ensures state { OnOk result ((texts : Texts) (u : Bool) → state_of texts u s.now into.new ≡ filed_with name (tree into.old.known t.0) (state_of texts u s.now into.old)) }
 {
     if name.is_none() {
         return Ok(());
@@ -98,10 +98,10 @@ pub(crate) fn completed(
     requires types { MembersBelow (length into.old.known.terms) members.items }
     requires differ { NamesDiffer members.items }
     requires complete { AreComplete (env into.old.known) (named_in (trees into.old.known) members.items) }
-    ensures opened { IfOk result (λ r. IfSome r (λ k. IsOpen into.new s.now)) }
-    ensures goes { IfOk result (λ r. IfSome r (λ k. Goes into.old into.new)) }
+    ensures opened { IfAnswered result (λ k. IsOpen into.new s.now) }
+    ensures goes { IfAnswered result (λ k. Goes into.old into.new) }
     ensures known { IfOk result (λ r. IsType into.new.known r) }
-    ensures answer { IfOk result (λ r. (texts : List (List ℕ)) (u : Bool) → after_type texts u s.now into.new r ≡ completion_of union name number (named_in (trees into.old.known) members.items) (state_of texts u s.now into.old)) }
+    ensures answer { IfOk result (λ r. (texts : Texts) (u : Bool) → after_type texts u s.now into.new r ≡ completion_of union name number (named_in (trees into.old.known) members.items) (state_of texts u s.now into.old)) }
 {
     let t = composite_type(into, union, number)?;
     if !is_open(into, number) {
@@ -171,8 +171,8 @@ fn with_member(
 ) -> Result<Option<MemberList>, NoMemory>
     requires number { t.0 < length into.now.known.terms }
     requires members { AreMembers into.now.known members }
-    ensures members { IfOk result (λ r. IfSome r (AreMembers into.now.known)) }
-    ensures answer { IfOk result (λ r. (texts : List (List ℕ)) (u : Bool) (s : Raw) → members_if into.now.known r ≡ with_member (state_of texts u s into.now) (members_shown into.now.known members) name (tree into.now.known t.0)) }
+    ensures members { IfAnswered result (AreMembers into.now.known) }
+    ensures answer { IfOk result (λ r. (texts : Texts) (u : Bool) (s : Raw) → members_if into.now.known r ≡ with_member (state_of texts u s into.now) (members_shown into.now.known members) name (tree into.now.known t.0)) }
 {
     if !may_add(into, &members, name, t) {
         return Ok(None);
@@ -196,8 +196,8 @@ pub(crate) fn member_of(
     requires members { AreMembers into.old.known members }
     ensures opened { OnOk result (IsOpen into.new s.now) }
     ensures goes { OnOk result (Goes into.old into.new) }
-    ensures members { IfOk result (λ r. IfSome r (AreMembers into.new.known)) }
-    ensures answer { IfOk result (λ r. (texts : List (List ℕ)) (u : Bool) (g : Option Signature) → after_members texts u s.now into.new r ≡ member_from_steps texts u s.now into.old named base members steps.now g) }
+    ensures members { IfAnswered result (AreMembers into.new.known) }
+    ensures answer { IfOk result (λ r. (texts : Texts) (u : Bool) (g : Option Signature) → after_members texts u s.now into.new r ≡ member_from_steps texts u s.now into.old named base members steps.now g) }
 {
     let Some((name, _)) = named else {
         return Ok(None);
@@ -223,11 +223,11 @@ pub(crate) fn completed_seen(
     requires tag { HasTag into.old union number }
     requires members { AreMembers into.old.known members }
     requires named { IsType into.old.known seen.named }
-    ensures opened { IfOk result (λ r. IfSome r (λ x. IsOpen into.new s.now)) }
-    ensures goes { IfOk result (λ r. IfSome r (λ x. Goes into.old into.new)) }
-    ensures known { IfOk result (λ r. IfSome r (λ x. IsType into.new.known x.named)) }
-    ensures bounded { IfOk result (λ r. IfSome r (λ x. total x.words ≤ total seen.words)) }
-    ensures answer { IfOk result (λ r. (texts : List (List ℕ)) (u : Bool) → after_seen texts u s.now into.new r ≡ with_some_members union name number (seen_in into.old.known seen) (members_after texts u s.now into.old members)) }
+    ensures opened { IfAnswered result (λ x. IsOpen into.new s.now) }
+    ensures goes { IfAnswered result (λ x. Goes into.old into.new) }
+    ensures known { IfAnswered result (λ x. IsType into.new.known x.named) }
+    ensures bounded { IfAnswered result (λ x. total x.words ≤ total seen.words) }
+    ensures answer { IfOk result (λ r. (texts : Texts) (u : Bool) → after_seen texts u s.now into.new r ≡ with_some_members union name number (seen_in into.old.known seen) (members_after texts u s.now into.old members)) }
 {
     if members.list.is_empty() {
         return Ok(None);

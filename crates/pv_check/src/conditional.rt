@@ -1,5 +1,5 @@
 // The conditional operator (C17 6.5.15).
-ghost use Rattle.std.specs.Prelude.{◌≡◌, ◌<◌, Bool, length, IfOk, IfSome, OnOk, IsTrue, Some};
+ghost use Rattle.std.specs.Prelude.{◌≡◌, ◌<◌, Bool, length, IfOk, OnOk, IsTrue, Some};
 ghost use Rattle.pv_types.specs.Known.{tree};
 ghost use Rattle.pv_types.specs.Ty.{VoidTy};
 ghost use Rattle.pv_typed.specs.TypedTree.{type_of};
@@ -10,6 +10,7 @@ ghost use Rattle.pv_check.specs.Conditional.{pointer_type, plain_type, result_ty
 ghost use Rattle.pv_check.specs.ConditionalParts.{type_of_chosen, pointer_to, chosen_node, pointer_of_both};
 ghost use Rattle.pv_check.specs.Growing.{Grows, IsType, type_if};
 ghost use Rattle.pv_check.specs.Kept.{Kept, expression_if};
+ghost use Rattle.pv_check.specs.Open.{IfAnswered};
 
 use crate::composite_types::composite;
 use crate::interning::interned;
@@ -239,7 +240,7 @@ pub(crate) fn conditional(
     requires first { IsExpression into.old a }
     requires second { IsExpression into.old b }
     requires third { IsExpression into.old c }
-    ensures node { IfOk result (λ r. IfSome r (λ v. IsExpression into.new v)) }
+    ensures node { IfAnswered result (IsExpression into.new) }
     ensures typed { IfOk result (λ r. expression_if into.new r ≡ conditional_of line (expression_at into.old a) (expression_at into.old b) (expression_at into.old c)) }
     ensures kept { OnOk result (Kept into.old into.new) }
 {

@@ -2,7 +2,7 @@
 ghost use Rattle.std.specs.Prelude.{◌≡◌, ◌++◌, ◌∷◌, [], IfOk, ◌<◌, IfSome, Some};
 ghost use Rattle.pv_check.specs.Derivations.{size_of};
 ghost use Rattle.pv_tree.specs.Tables.{Is, is_expression, expression_at as expression_of_node, is_declarator, declarator_at, optional_at};
-ghost use Rattle.pv_check.specs.Open.{state_of, IsOpen, Goes};
+ghost use Rattle.pv_check.specs.Open.{state_of, IsOpen, Goes, IfAnswered};
 ghost use Rattle.pv_check.specs.Rows.{operand, integer_value};
 ghost use Rattle.pv_check.specs.Typing.{types, steps, optional_steps, array_size};
 ghost use Rattle.pv_check.specs.Declarators.{after_steps, after_value, KnownSteps};
@@ -61,8 +61,8 @@ pub(crate) fn integer_at(
 ) -> Result<Option<i128>, NoMemory>
     requires node { Is u.now is_expression n }
     requires opened { IsOpen into.old s.old }
-    ensures opened { IfOk result (λ r. IfSome r (λ k. IsOpen into.new s.new)) }
-    ensures goes { IfOk result (λ r. IfSome r (λ k. Goes into.old into.new)) }
+    ensures opened { IfAnswered result (λ k. IsOpen into.new s.new) }
+    ensures goes { IfAnswered result (λ k. Goes into.old into.new) }
     ensures answer { IfOk result (λ r. after_value t.now.texts unevaluated s.new into.new r ≡ integer_value (operand (types (expression_of_node u.now.forest n) (state_of t.now.texts unevaluated s.old into.old)))) }
 {
     let Some(x) = operand(s, u, t, n, unevaluated, into)? else {
@@ -83,8 +83,8 @@ pub(crate) fn array_size(
 ) -> Result<Option<Option<u64>>, NoMemory>
     requires node { IfSome size (λ n. Is u.now is_expression n) }
     requires opened { IsOpen into.old s.old }
-    ensures opened { IfOk result (λ r. IfSome r (λ k. IsOpen into.new s.new)) }
-    ensures goes { IfOk result (λ r. IfSome r (λ k. Goes into.old into.new)) }
+    ensures opened { IfAnswered result (λ k. IsOpen into.new s.new) }
+    ensures goes { IfAnswered result (λ k. Goes into.old into.new) }
     ensures answer { IfOk result (λ r. after_value t.now.texts unevaluated s.new into.new r ≡ array_size (optional_at u.now.forest size) (state_of t.now.texts unevaluated s.old into.old)) }
 {
     let Some(n) = size else {
@@ -112,8 +112,8 @@ pub fn steps_of(
 ) -> Result<Option<Steps>, NoMemory>
     requires node { Is u.now is_declarator n }
     requires opened { IsOpen into.old s.old }
-    ensures opened { IfOk result (λ r. IfSome r (λ k. IsOpen into.new s.new)) }
-    ensures goes { IfOk result (λ r. IfSome r (λ k. Goes into.old into.new)) }
+    ensures opened { IfAnswered result (λ k. IsOpen into.new s.new) }
+    ensures goes { IfAnswered result (λ k. Goes into.old into.new) }
     ensures known { IfOk result (λ r. KnownSteps into.new r) }
     ensures answer { IfOk result (λ r. after_steps t.now.texts unevaluated s.new into.new r ≡ steps (declarator_at u.now.forest n) (state_of t.now.texts unevaluated s.old into.old)) }
 {
@@ -167,8 +167,8 @@ pub(crate) fn optional_steps(
 ) -> Result<Option<Steps>, NoMemory>
     requires node { IfSome d (λ n. Is u.now is_declarator n) }
     requires opened { IsOpen into.old s.old }
-    ensures opened { IfOk result (λ r. IfSome r (λ k. IsOpen into.new s.new)) }
-    ensures goes { IfOk result (λ r. IfSome r (λ k. Goes into.old into.new)) }
+    ensures opened { IfAnswered result (λ k. IsOpen into.new s.new) }
+    ensures goes { IfAnswered result (λ k. Goes into.old into.new) }
     ensures known { IfOk result (λ r. KnownSteps into.new r) }
     ensures answer { IfOk result (λ r. after_steps t.now.texts unevaluated s.new into.new r ≡ optional_steps (optional_at u.now.forest d) (state_of t.now.texts unevaluated s.old into.old)) }
 {

@@ -1,10 +1,10 @@
 // Enumerations (C17 6.7.2.2): their tags and their enumerators.
-ghost use Rattle.std.specs.Prelude.{◌≡◌, ◌<◌, ◌≤◌, ◌+ℤ◌, pos, ℕ, ℤ, Bool, List, length, IfOk, OnOk, IfSome, IsTrue, Some, None};
+ghost use Rattle.std.specs.Prelude.{◌≡◌, ◌<◌, ◌≤◌, ◌+ℤ◌, pos, ℤ, Bool, length, IfOk, OnOk, IsTrue, Some, None};
 ghost use Rattle.pv_typed.specs.Tables.{Stored, whole_unit};
 ghost use Rattle.pv_check.specs.declared.scopes.TagEntry.TheVariants as tag;
 ghost use Rattle.pv_check.specs.Declarators.{after_value};
 ghost use Rattle.pv_check.specs.Growing.{IsType};
-ghost use Rattle.pv_check.specs.Open.{state_of, IsOpen, Goes, after_nothing};
+ghost use Rattle.pv_check.specs.Open.{state_of, IsOpen, Goes, after_nothing, Texts, IfAnswered};
 ghost use Rattle.pv_check.specs.Seeing.{seen_in};
 ghost use Rattle.pv_check.specs.SeenAfter.{after_seen};
 ghost use Rattle.pv_check.specs.Specifiers.{with_type};
@@ -31,7 +31,7 @@ pub(crate) fn opened_enumeration(
 ) -> Result<bool, NoMemory>
     requires opened { IsOpen into.now s.old }
     ensures opened { OnOk result (IsOpen into.now s.new) }
-    ensures answer { IfOk result (λ r. (texts : List (List ℕ)) (u : Bool) → after_nothing texts u s.new into.now r ≡ opened_enumeration name (state_of texts u s.old into.now)) }
+    ensures answer { IfOk result (λ r. (texts : Texts) (u : Bool) → after_nothing texts u s.new into.now r ≡ opened_enumeration name (state_of texts u s.old into.now)) }
 {
     let Some(n) = name else {
         return Ok(true);
@@ -51,7 +51,7 @@ pub(crate) fn closed_enumeration(
 ) -> Result<(), NoMemory>
     requires opened { IsOpen into.now s.old }
     ensures opened { OnOk result (IsOpen into.now s.new) }
-    ensures answer { OnOk result ((texts : List (List ℕ)) (u : Bool) → state_of texts u s.new into.now ≡ closed_enumeration name (state_of texts u s.old into.now)) }
+    ensures answer { OnOk result ((texts : Texts) (u : Bool) → state_of texts u s.new into.now ≡ closed_enumeration name (state_of texts u s.old into.now)) }
 {
     if let Some(n) = name {
         s.bind_tag(n, TagEntry::Enumerated)?;
@@ -61,7 +61,7 @@ pub(crate) fn closed_enumeration(
 
 /// Whether an enumerator may have the value (C17 6.7.2.2p2), and the name: at file scope `main` is a function.
 fn may_enumerate(s: &Scopes, into: &TypedUnit, n: u32, k: i128) -> bool
-    ensures value { (texts : List (List ℕ)) (u : Bool) → result ≡ may_enumerate n k (state_of texts u s.now into.now) }
+    ensures value { (texts : Texts) (u : Bool) → result ≡ may_enumerate n k (state_of texts u s.now into.now) }
     ensures small { IsTrue result → IsTrue (fits_of kind.Int k) }
 {
     fits(IntKind::Int, k) && !(s.count() == 1 && is_main(into, n))
@@ -93,7 +93,7 @@ pub(crate) fn enumerated(
 ) -> Result<Option<i128>, NoMemory>
     requires opened { IsOpen into.now s.old }
     ensures opened { OnOk result (IsOpen into.now s.new) }
-    ensures answer { IfOk result (λ r. (texts : List (List ℕ)) (u : Bool) → after_value texts u s.new into.now r ≡ enumerator_step n k (state_of texts u s.old into.now)) }
+    ensures answer { IfOk result (λ r. (texts : Texts) (u : Bool) → after_value texts u s.new into.now r ≡ enumerator_step n k (state_of texts u s.old into.now)) }
 {
     if !may_enumerate(s, into, n, k) {
         return Ok(None);
@@ -115,9 +115,9 @@ pub(crate) fn enumeration_seen(
     requires named { IsType into.old.known seen.named }
     ensures opened { OnOk result (IsOpen into.new s.new) }
     ensures goes { OnOk result (Goes into.old into.new) }
-    ensures known { IfOk result (λ r. IfSome r (λ x. IsType into.new.known x.named)) }
-    ensures bounded { IfOk result (λ r. IfSome r (λ x. total x.words ≤ total seen.words)) }
-    ensures answer { IfOk result (λ r. (texts : List (List ℕ)) (u : Bool) → after_seen texts u s.new into.new r ≡ give (with_type (seen_in into.old.known seen) (IntTy kind.Int)) (closed_enumeration tag (state_of texts u s.old into.old))) }
+    ensures known { IfAnswered result (λ x. IsType into.new.known x.named) }
+    ensures bounded { IfAnswered result (λ x. total x.words ≤ total seen.words) }
+    ensures answer { IfOk result (λ r. (texts : Texts) (u : Bool) → after_seen texts u s.new into.new r ≡ give (with_type (seen_in into.old.known seen) (IntTy kind.Int)) (closed_enumeration tag (state_of texts u s.old into.old))) }
 {
     closed_enumeration(s, into, tag)?;
     let t = interned_in(into, Term::Int(IntKind::Int))?;

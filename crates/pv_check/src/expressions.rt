@@ -1,6 +1,6 @@
 //! Expressions (C17 6.5): their parts from left to right, and what is made of them. They call type names, and those
 //! call them for the sizes of arrays: one cycle, through three modules.
-ghost use Rattle.std.specs.Prelude.{◌≡◌, ◌<◌, false, IfOk, IfSome, OnOk, Some, length, List, ℕ};
+ghost use Rattle.std.specs.Prelude.{◌≡◌, ◌<◌, false, IfOk, OnOk, Some, length};
 ghost use Rattle.pv_tree.specs.Tables.{Is, is_expression, is_declaration, expression_at as expression_of_node, declaration_at, arguments_at, IsListOf};
 ghost use Rattle.pv_typed.specs.Known.{Each};
 ghost use Rattle.pv_check.specs.Passing.{after_nodes};
@@ -9,7 +9,7 @@ ghost use Rattle.pv_types.specs.Known.{tree};
 ghost use Rattle.pv_check.specs.State.{give};
 ghost use Rattle.pv_typed.specs.Constants.{and_then};
 ghost use Rattle.pv_check.specs.Unary.{sizeof_type, cast_of};
-ghost use Rattle.pv_check.specs.Open.{state_of, IsOpen, Goes};
+ghost use Rattle.pv_check.specs.Open.{state_of, IsOpen, Goes, Texts, state_in, IfAnswered};
 ghost use Rattle.pv_check.specs.Arms.{after_node, OpenIf, row_of_one, row_of_two, first_operand};
 ghost use Rattle.pv_check.specs.Kept.{Kept, env_of};
 ghost use Rattle.pv_check.specs.Rows.{operand, within_sizeof};
@@ -44,7 +44,7 @@ fn value_of(
     requires open { IsOpen into.old s.now }
     requires node { IsExpression into.old a }
     ensures open { IfOk result (λ r. OpenIf into.new s.now r) }
-    ensures typed { (texts : List (List ℕ)) → IfOk result (λ r. after_node texts hidden s.now into.new r ≡ operand (after_node texts hidden s.now into.old (Some a))) }
+    ensures typed { (texts : Texts) → IfOk result (λ r. after_node texts hidden s.now into.new r ≡ operand (after_node texts hidden s.now into.old (Some a))) }
     ensures kept { OnOk result (Kept into.old into.new) }
 {
     let r = value(into, a)?;
@@ -62,7 +62,7 @@ fn size_of_type(
     requires open { IsOpen into.old s.now }
     requires target { x.0 < length into.old.known.terms }
     ensures open { IfOk result (λ r. OpenIf into.new s.now r) }
-    ensures typed { (texts : List (List ℕ)) → IfOk result (λ r. after_node texts hidden s.now into.new r ≡ give (sizeof_type (env_of into.old) line (tree into.old.known x.0)) (state_of texts hidden s.now into.old)) }
+    ensures typed { (texts : Texts) → IfOk result (λ r. after_node texts hidden s.now into.new r ≡ give (sizeof_type (env_of into.old) line (tree into.old.known x.0)) (state_of texts hidden s.now into.old)) }
     ensures kept { OnOk result (Kept into.old into.new) }
 {
     let r = size_of(into, line, x)?;
@@ -82,7 +82,7 @@ fn cast_value(
     requires target { x.0 < length into.old.known.terms }
     requires node { IsExpression into.old a }
     ensures open { IfOk result (λ r. OpenIf into.new s.now r) }
-    ensures typed { (texts : List (List ℕ)) → IfOk result (λ r. after_node texts hidden s.now into.new r ≡ give (cast_of line (tree into.old.known x.0) (expression_at into.old a)) (state_of texts hidden s.now into.old)) }
+    ensures typed { (texts : Texts) → IfOk result (λ r. after_node texts hidden s.now into.new r ≡ give (cast_of line (tree into.old.known x.0) (expression_at into.old a)) (state_of texts hidden s.now into.old)) }
     ensures kept { OnOk result (Kept into.old into.new) }
 {
     let r = cast(into, line, x, a)?;
@@ -100,7 +100,7 @@ pub fn expression(
     requires node { Is u.now is_expression e }
     requires open { IsOpen into.old s.old }
     ensures open { IfOk result (λ r. OpenIf into.new s.new r) }
-    ensures typed { IfOk result (λ r. after_node t.now.texts false s.new into.new r ≡ types (expression_of_node u.now.forest e) (state_of t.now.texts false s.old into.old)) }
+    ensures typed { IfOk result (λ r. after_node t.now.texts false s.new into.new r ≡ types (expression_of_node u.now.forest e) (state_in t.now.texts s.old into.old)) }
 {
     typed(s, u, t, e, false, into)
 }
@@ -119,7 +119,7 @@ fn typed(
     requires open { IsOpen into.old s.old }
     ensures open { IfOk result (λ r. OpenIf into.new s.new r) }
     ensures typed { IfOk result (λ r. after_node t.now.texts hidden s.new into.new r ≡ types (expression_of_node u.now.forest e) (state_of t.now.texts hidden s.old into.old)) }
-    ensures goes { IfOk result (λ r. IfSome r (λ v. Goes into.old into.new)) }
+    ensures goes { IfAnswered result (λ v. Goes into.old into.new) }
 {
     let line = u.line(e);
     match u.expr(e) {
@@ -181,7 +181,7 @@ pub fn operand(
     requires open { IsOpen into.old s.old }
     ensures open { IfOk result (λ r. OpenIf into.new s.new r) }
     ensures typed { IfOk result (λ r. after_node t.now.texts hidden s.new into.new r ≡ operand (types (expression_of_node u.now.forest a) (state_of t.now.texts hidden s.old into.old))) }
-    ensures goes { IfOk result (λ r. IfSome r (λ v. Goes into.old into.new)) }
+    ensures goes { IfAnswered result (λ v. Goes into.old into.new) }
 {
     let Some(x) = typed(s, u, t, a, hidden, into)? else {
         return Ok(None);
@@ -206,7 +206,7 @@ fn of_one(
     requires open { IsOpen into.old s.old }
     ensures open { IfOk result (λ r. OpenIf into.new s.new r) }
     ensures typed { IfOk result (λ r. after_node t.now.texts hidden s.new into.new r ≡ and_then (types (expression_of_node u.now.forest a) (state_of t.now.texts hidden s.old into.old)) (row_of_one what line)) }
-    ensures goes { IfOk result (λ r. IfSome r (λ v. Goes into.old into.new)) }
+    ensures goes { IfAnswered result (λ v. Goes into.old into.new) }
 {
     let Some(x) = typed(s, u, t, a, hidden, into)? else {
         return Ok(None);
@@ -230,7 +230,7 @@ fn first_of(
     requires open { IsOpen into.old s.old }
     ensures open { IfOk result (λ r. OpenIf into.new s.new r) }
     ensures typed { IfOk result (λ r. after_node t.now.texts hidden s.new into.new r ≡ first_operand what (types (expression_of_node u.now.forest a) (state_of t.now.texts hidden s.old into.old))) }
-    ensures goes { IfOk result (λ r. IfSome r (λ v. Goes into.old into.new)) }
+    ensures goes { IfAnswered result (λ v. Goes into.old into.new) }
 {
     match what {
         Two::Assign(_) => typed(s, u, t, a, hidden, into),
@@ -256,7 +256,7 @@ fn of_two(
     requires open { IsOpen into.old s.old }
     ensures open { IfOk result (λ r. OpenIf into.new s.new r) }
     ensures typed { IfOk result (λ r. after_node t.now.texts hidden s.new into.new r ≡ of_two_operands u.now.forest what line a b (state_of t.now.texts hidden s.old into.old)) }
-    ensures goes { IfOk result (λ r. IfSome r (λ v. Goes into.old into.new)) }
+    ensures goes { IfAnswered result (λ v. Goes into.old into.new) }
 {
     let Some(x) = first_of(s, u, t, what, a, hidden, into)? else {
         return Ok(None);
@@ -287,7 +287,7 @@ fn of_three(
     requires open { IsOpen into.old s.old }
     ensures open { IfOk result (λ r. OpenIf into.new s.new r) }
     ensures typed { IfOk result (λ r. after_node t.now.texts hidden s.new into.new r ≡ of_three_operands u.now.forest line a b c (state_of t.now.texts hidden s.old into.old)) }
-    ensures goes { IfOk result (λ r. IfSome r (λ v. Goes into.old into.new)) }
+    ensures goes { IfAnswered result (λ v. Goes into.old into.new) }
 {
     let Some(x) = operand(s, u, t, a, hidden, into)? else {
         return Ok(None);
@@ -317,7 +317,7 @@ fn measured(
     requires open { IsOpen into.old s.old }
     ensures open { IfOk result (λ r. OpenIf into.new s.new r) }
     ensures typed { IfOk result (λ r. after_node t.now.texts hidden s.new into.new r ≡ size_of_operand u.now.forest line a (state_of t.now.texts hidden s.old into.old)) }
-    ensures goes { IfOk result (λ r. IfSome r (λ v. Goes into.old into.new)) }
+    ensures goes { IfAnswered result (λ v. Goes into.old into.new) }
 {
     let Some(x) = typed(s, u, t, a, true, into)? else {
         return Ok(None);
@@ -341,7 +341,7 @@ fn sizeof_named(
     requires open { IsOpen into.old s.old }
     ensures open { IfOk result (λ r. OpenIf into.new s.new r) }
     ensures typed { IfOk result (λ r. after_node t.now.texts hidden s.new into.new r ≡ size_of_named_type u.now.forest line n (state_of t.now.texts hidden s.old into.old)) }
-    ensures goes { IfOk result (λ r. IfSome r (λ v. Goes into.old into.new)) }
+    ensures goes { IfAnswered result (λ v. Goes into.old into.new) }
 {
     let Some(x) = type_named(s, u, t, n, true, into)? else {
         return Ok(None);
@@ -367,7 +367,7 @@ fn cast_to(
     requires open { IsOpen into.old s.old }
     ensures open { IfOk result (λ r. OpenIf into.new s.new r) }
     ensures typed { IfOk result (λ r. after_node t.now.texts hidden s.new into.new r ≡ cast_to_type u.now.forest line n a (state_of t.now.texts hidden s.old into.old)) }
-    ensures goes { IfOk result (λ r. IfSome r (λ v. Goes into.old into.new)) }
+    ensures goes { IfAnswered result (λ v. Goes into.old into.new) }
 {
     let Some(x) = type_named(s, u, t, n, hidden, into)? else {
         return Ok(None);
@@ -393,7 +393,7 @@ fn callee_of(
     requires open { IsOpen into.old s.old }
     ensures open { IfOk result (λ r. CalledIf into.new s.new r) }
     ensures typed { IfOk result (λ r. after_callee t.now.texts hidden s.new into.new r ≡ callee_of (expression_of_node u.now.forest f) (state_of t.now.texts hidden s.old into.old)) }
-    ensures goes { IfOk result (λ r. IfSome r (λ v. Goes into.old into.new)) }
+    ensures goes { IfAnswered result (λ v. Goes into.old into.new) }
 {
     if let Some(c) = used_callee(s, u, into, f)? {
         return Ok(Some(Target::Named(c)));
@@ -421,7 +421,7 @@ fn call_to(
     requires open { IsOpen into.old s.old }
     ensures open { IfOk result (λ r. OpenIf into.new s.new r) }
     ensures typed { IfOk result (λ r. after_node t.now.texts hidden s.new into.new r ≡ call_with_list u.now.forest line f args (state_of t.now.texts hidden s.old into.old)) }
-    ensures goes { IfOk result (λ r. IfSome r (λ v. Goes into.old into.new)) }
+    ensures goes { IfAnswered result (λ v. Goes into.old into.new) }
 {
     let Some(c) = callee_of(s, u, t, f, hidden, into)? else {
         return Ok(None);
@@ -445,10 +445,10 @@ fn arguments(
 ) -> Result<Option<Vec<NodeId>>, NoMemory>
     requires list { IsListOf u.now is_expression args }
     requires open { IsOpen into.old s.old }
-    ensures open { IfOk result (λ r. IfSome r (λ v. IsOpen into.new s.new)) }
-    ensures nodes { IfOk result (λ r. IfSome r (λ v. Each (IsExpression into.new) v.items)) }
+    ensures open { IfAnswered result (λ v. IsOpen into.new s.new) }
+    ensures nodes { IfAnswered result (λ v. Each (IsExpression into.new) v.items) }
     ensures typed { IfOk result (λ r. after_nodes t.now.texts hidden s.new into.new r ≡ arguments (arguments_at u.now.forest args) (state_of t.now.texts hidden s.old into.old)) }
-    ensures goes { IfOk result (λ r. IfSome r (λ v. Goes into.old into.new)) }
+    ensures goes { IfAnswered result (λ v. Goes into.old into.new) }
 {
     let nodes = u.list(args);
     let mut list = Vec::new(s.allocator());

@@ -1,8 +1,8 @@
 //! What stands outermost in a declarator, abstract or not (C17 6.7.6, 6.7.7).
-ghost use Rattle.std.specs.Prelude.{◌≡◌, Bool, List, ℕ};
+ghost use Rattle.std.specs.Prelude.{◌≡◌, Bool};
 ghost use Rattle.pv_tree.specs.Tables.{Is, is_declarator, declarator_at};
 ghost use Rattle.pv_check.specs.Forms.{HasFormParts, form_steps};
-ghost use Rattle.pv_check.specs.Open.{state_of};
+ghost use Rattle.pv_check.specs.Open.{state_of, Texts};
 ghost use Rattle.pv_check.specs.Typing.{steps};
 
 use crate::scopes::Scopes;
@@ -31,7 +31,7 @@ pub(crate) enum Form {
 pub(crate) fn form_of(u: &Unit, s: &Scopes, into: &TypedUnit, n: NodeId) -> Form
     requires { Is u.now is_declarator n }
     ensures parts { HasFormParts u.now.forest n.0 result }
-    ensures answer { (texts : List (List ℕ)) (h : Bool) → form_steps u.now.forest result (state_of texts h s.now into.now) ≡ steps (declarator_at u.now.forest n) (state_of texts h s.now into.now) }
+    ensures answer { (texts : Texts) (h : Bool) → form_steps u.now.forest result (state_of texts h s.now into.now) ≡ steps (declarator_at u.now.forest n) (state_of texts h s.now into.now) }
 {
     match u.declarator(n) {
         Declarator::Name(_) => Form::Name,

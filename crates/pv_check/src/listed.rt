@@ -7,7 +7,7 @@ ghost use Rattle.pv_num.specs.declared.kinds.IntKind.TheVariants as kind;
 ghost use Rattle.pv_check.specs.Declarators.{after_value};
 ghost use Rattle.pv_check.specs.Growing.{IsType};
 ghost use Rattle.pv_check.specs.MembersRead.{members_shown, after_members, AreMembers, members_after};
-ghost use Rattle.pv_check.specs.Open.{state_of, IsOpen, Goes};
+ghost use Rattle.pv_check.specs.Open.{state_of, IsOpen, Goes, IfAnswered};
 ghost use Rattle.pv_check.specs.Seeing.{seen_in};
 ghost use Rattle.pv_check.specs.SeenAfter.{after_seen};
 ghost use Rattle.pv_check.specs.Specifiers.{with_type};
@@ -48,10 +48,10 @@ pub(crate) fn composite_listed(
     requires list { IsListOf u.now is_declaration list }
     requires opened { IsOpen into.old s.old }
     requires named { IsType into.old.known seen.named }
-    ensures opened { IfOk result (λ r. IfSome r (λ x. IsOpen into.new s.new)) }
-    ensures goes { IfOk result (λ r. IfSome r (λ x. Goes into.old into.new)) }
-    ensures known { IfOk result (λ r. IfSome r (λ x. IsType into.new.known x.named)) }
-    ensures bounded { IfOk result (λ r. IfSome r (λ x. total x.words ≤ total seen.words)) }
+    ensures opened { IfAnswered result (λ x. IsOpen into.new s.new) }
+    ensures goes { IfAnswered result (λ x. Goes into.old into.new) }
+    ensures known { IfAnswered result (λ x. IsType into.new.known x.named) }
+    ensures bounded { IfAnswered result (λ x. total x.words ≤ total seen.words) }
     ensures answer { IfOk result (λ r. after_seen t.now.texts unevaluated s.new into.new r ≡ with_composite_list u.now.forest union tag list (seen_in into.old.known seen) (state_of t.now.texts unevaluated s.old into.old)) }
 {
     let Some(number) = opened(s, into, union, tag)? else {
@@ -76,9 +76,9 @@ fn members(
 ) -> Result<Option<MemberList>, NoMemory>
     requires list { IsListOf u.now is_declaration list }
     requires opened { IsOpen into.old s.old }
-    ensures opened { IfOk result (λ r. IfSome r (λ x. IsOpen into.new s.new)) }
-    ensures goes { IfOk result (λ r. IfSome r (λ x. Goes into.old into.new)) }
-    ensures members { IfOk result (λ r. IfSome r (AreMembers into.new.known)) }
+    ensures opened { IfAnswered result (λ x. IsOpen into.new s.new) }
+    ensures goes { IfAnswered result (λ x. Goes into.old into.new) }
+    ensures members { IfAnswered result (AreMembers into.new.known) }
     ensures answer { IfOk result (λ r. after_members t.now.texts unevaluated s.new into.new r ≡ members (trees_at u.now.forest list) (state_of t.now.texts unevaluated s.old into.old)) }
 {
     let nodes = u.list(list);
@@ -108,9 +108,9 @@ fn member(
     requires node { Is u.now is_declaration n }
     requires opened { IsOpen into.old s.old }
     requires members { AreMembers into.old.known before }
-    ensures opened { IfOk result (λ r. IfSome r (λ x. IsOpen into.new s.new)) }
-    ensures goes { IfOk result (λ r. IfSome r (λ x. Goes into.old into.new)) }
-    ensures members { IfOk result (λ r. IfSome r (AreMembers into.new.known)) }
+    ensures opened { IfAnswered result (λ x. IsOpen into.new s.new) }
+    ensures goes { IfAnswered result (λ x. Goes into.old into.new) }
+    ensures members { IfAnswered result (AreMembers into.new.known) }
     ensures answer { IfOk result (λ r. after_members t.now.texts unevaluated s.new into.new r ≡ member_in (tree_at u.now.forest n) (members_after t.now.texts unevaluated s.old into.old before)) }
 {
     match u.decl(n) {
@@ -146,9 +146,9 @@ fn member_declarators(
     requires opened { IsOpen into.old s.old }
     requires base { base.0 < length into.old.known.terms }
     requires members { AreMembers into.old.known before }
-    ensures opened { IfOk result (λ r. IfSome r (λ x. IsOpen into.new s.new)) }
-    ensures goes { IfOk result (λ r. IfSome r (λ x. Goes into.old into.new)) }
-    ensures members { IfOk result (λ r. IfSome r (AreMembers into.new.known)) }
+    ensures opened { IfAnswered result (λ x. IsOpen into.new s.new) }
+    ensures goes { IfAnswered result (λ x. Goes into.old into.new) }
+    ensures members { IfAnswered result (AreMembers into.new.known) }
     ensures answer { IfOk result (λ r. after_members t.now.texts unevaluated s.new into.new r ≡ declared_members u.now.forest list (tree into.old.known base.0) (members_after t.now.texts unevaluated s.old into.old before)) }
 {
     let nodes = u.list(list);
@@ -180,9 +180,9 @@ fn member_declarator(
     requires opened { IsOpen into.old s.old }
     requires base { base.0 < length into.old.known.terms }
     requires members { AreMembers into.old.known before }
-    ensures opened { IfOk result (λ r. IfSome r (λ x. IsOpen into.new s.new)) }
-    ensures goes { IfOk result (λ r. IfSome r (λ x. Goes into.old into.new)) }
-    ensures members { IfOk result (λ r. IfSome r (AreMembers into.new.known)) }
+    ensures opened { IfAnswered result (λ x. IsOpen into.new s.new) }
+    ensures goes { IfAnswered result (λ x. Goes into.old into.new) }
+    ensures members { IfAnswered result (AreMembers into.new.known) }
     ensures answer { IfOk result (λ r. after_members t.now.texts unevaluated s.new into.new r ≡ declared_member u.now.forest n (tree into.old.known base.0) (members_after t.now.texts unevaluated s.old into.old before)) }
 {
     let alloc = s.allocator();
@@ -209,10 +209,10 @@ pub(crate) fn enumeration_listed(
     requires list { IsListOf u.now is_declaration list }
     requires opened { IsOpen into.old s.old }
     requires named { IsType into.old.known seen.named }
-    ensures opened { IfOk result (λ r. IfSome r (λ x. IsOpen into.new s.new)) }
-    ensures goes { IfOk result (λ r. IfSome r (λ x. Goes into.old into.new)) }
-    ensures known { IfOk result (λ r. IfSome r (λ x. IsType into.new.known x.named)) }
-    ensures bounded { IfOk result (λ r. IfSome r (λ x. total x.words ≤ total seen.words)) }
+    ensures opened { IfAnswered result (λ x. IsOpen into.new s.new) }
+    ensures goes { IfAnswered result (λ x. Goes into.old into.new) }
+    ensures known { IfAnswered result (λ x. IsType into.new.known x.named) }
+    ensures bounded { IfAnswered result (λ x. total x.words ≤ total seen.words) }
     ensures answer { IfOk result (λ r. after_seen t.now.texts unevaluated s.new into.new r ≡ with_enumeration_list u.now.forest tag list (seen_in into.old.known seen) (state_of t.now.texts unevaluated s.old into.old)) }
 {
     if !opened_enumeration(s, into, tag)? {
@@ -237,8 +237,8 @@ fn enumerators(
 ) -> Result<Option<i128>, NoMemory>
     requires list { IsListOf u.now is_declaration list }
     requires opened { IsOpen into.old s.old }
-    ensures opened { IfOk result (λ r. IfSome r (λ x. IsOpen into.new s.new)) }
-    ensures goes { IfOk result (λ r. IfSome r (λ x. Goes into.old into.new)) }
+    ensures opened { IfAnswered result (λ x. IsOpen into.new s.new) }
+    ensures goes { IfAnswered result (λ x. Goes into.old into.new) }
     ensures answer { IfOk result (λ r. after_value t.now.texts unevaluated s.new into.new r ≡ enumerators (trees_at u.now.forest list) (state_of t.now.texts unevaluated s.old into.old)) }
 {
     let nodes = u.list(list);
@@ -267,8 +267,8 @@ fn enumerator(
 ) -> Result<Option<i128>, NoMemory>
     requires node { Is u.now is_declaration n }
     requires opened { IsOpen into.old s.old }
-    ensures opened { IfOk result (λ r. IfSome r (λ x. IsOpen into.new s.new)) }
-    ensures goes { IfOk result (λ r. IfSome r (λ x. Goes into.old into.new)) }
+    ensures opened { IfAnswered result (λ x. IsOpen into.new s.new) }
+    ensures goes { IfAnswered result (λ x. Goes into.old into.new) }
     ensures answer { IfOk result (λ r. after_value t.now.texts unevaluated s.new into.new r ≡ enumerator_in (tree_at u.now.forest n) (record { value = next; state = state_of t.now.texts unevaluated s.old into.old })) }
 {
     match u.decl(n) {
@@ -301,8 +301,8 @@ fn enumerator_value(
 ) -> Result<Option<i128>, NoMemory>
     requires node { IfSome value (λ n. Is u.now is_expression n) }
     requires opened { IsOpen into.old s.old }
-    ensures opened { IfOk result (λ r. IfSome r (λ x. IsOpen into.new s.new)) }
-    ensures goes { IfOk result (λ r. IfSome r (λ x. Goes into.old into.new)) }
+    ensures opened { IfAnswered result (λ x. IsOpen into.new s.new) }
+    ensures goes { IfAnswered result (λ x. Goes into.old into.new) }
     ensures answer { IfOk result (λ r. after_value t.now.texts unevaluated s.new into.new r ≡ enumerator_value (optional_at u.now.forest value) next (state_of t.now.texts unevaluated s.old into.old)) }
 {
     match value {

@@ -1,5 +1,5 @@
 //! Identifiers (C17 6.5.1p2).
-ghost use Rattle.std.specs.Prelude.{◌≡◌, ◌<◌, ℕ, List, Some, IfOk, IfSome, OnOk, length, is_some};
+ghost use Rattle.std.specs.Prelude.{◌≡◌, ◌<◌, Some, IfOk, IfSome, OnOk, length, is_some};
 ghost use Rattle.pv_types.specs.Ty.{IntTy};
 ghost use Rattle.pv_num.specs.declared.kinds.IntKind.TheVariants.{Int};
 ghost use Rattle.pv_typed.specs.TypedTree.{Object, Function, Constant};
@@ -13,7 +13,7 @@ ghost use Rattle.pv_check.specs.Primary.{name_of};
 ghost use Rattle.pv_check.specs.PrimaryParts.{designator_of, used_function};
 ghost use Rattle.pv_library.specs.LibraryNames.{library_named};
 ghost use Rattle.pv_check.specs.Raw.{scopes_shown, meaning_if, used_of};
-ghost use Rattle.pv_check.specs.Open.{state_of, IsOpen, Goes, EntryKnown};
+ghost use Rattle.pv_check.specs.Open.{state_of, IsOpen, Goes, EntryKnown, Texts, IfAnswered};
 ghost use Rattle.pv_check.specs.Arms.{after_node, OpenIf};
 ghost use Rattle.pv_check.specs.Kept.{Kept, expression_if};
 ghost use Rattle.pv_check.specs.Values.{source_node};
@@ -30,7 +30,7 @@ use pv_types::{NoMemory, Term};
 pub(crate) fn object(into: &mut TypedUnit, line: u32, o: u32) -> Result<Option<NodeId>, NoMemory>
     requires known { AreKnown into.old }
     requires object { o < length into.old.objects }
-    ensures node { IfOk result (λ r. IfSome r (λ v. IsExpression into.new v)) }
+    ensures node { IfAnswered result (IsExpression into.new) }
     ensures typed { IfOk result (λ r. expression_if into.new r ≡ Some (source_node line (object_at (whole_unit into.old) o).t (Object o))) }
     ensures kept { OnOk result (Kept into.old into.new) }
 {
@@ -46,7 +46,7 @@ pub(crate) fn enumerator(
     value: i32,
 ) -> Result<Option<NodeId>, NoMemory>
     requires known { AreKnown into.old }
-    ensures node { IfOk result (λ r. IfSome r (λ v. IsExpression into.new v)) }
+    ensures node { IfAnswered result (IsExpression into.new) }
     ensures typed { IfOk result (λ r. expression_if into.new r ≡ Some (source_node line (IntTy Int) (Constant value))) }
     ensures kept { OnOk result (Kept into.old into.new) }
 {
@@ -80,7 +80,7 @@ fn named_object(
     requires open { IsOpen into.old s.old }
     requires object { o < length into.old.objects }
     ensures open { IfOk result (λ r. OpenIf into.new s.new r) }
-    ensures typed { (texts : List (List ℕ)) → IfOk result (λ r. after_node texts hidden s.new into.new r ≡ name_of line (Some (ObjectName o)) (state_of texts hidden s.old into.old)) }
+    ensures typed { (texts : Texts) → IfOk result (λ r. after_node texts hidden s.new into.new r ≡ name_of line (Some (ObjectName o)) (state_of texts hidden s.old into.old)) }
     ensures goes { OnOk result (Goes into.old into.new) }
 {
     s.note(Named::Object(o))?;
@@ -98,7 +98,7 @@ fn named_constant(
 ) -> Result<Option<NodeId>, NoMemory>
     requires open { IsOpen into.old s.now }
     ensures open { IfOk result (λ r. OpenIf into.new s.now r) }
-    ensures typed { (texts : List (List ℕ)) → IfOk result (λ r. after_node texts hidden s.now into.new r ≡ name_of line (Some (ConstantOf value)) (state_of texts hidden s.now into.old)) }
+    ensures typed { (texts : Texts) → IfOk result (λ r. after_node texts hidden s.now into.new r ≡ name_of line (Some (ConstantOf value)) (state_of texts hidden s.now into.old)) }
     ensures goes { OnOk result (Goes into.old into.new) }
 {
     let r = enumerator(into, line, value)?;
@@ -119,7 +119,7 @@ fn is_of_library(into: &TypedUnit, f: u32) -> bool
 fn designator(into: &mut TypedUnit, line: u32, f: u32) -> Result<Option<NodeId>, NoMemory>
     requires known { AreKnown into.old }
     requires function { f < length into.old.functions }
-    ensures node { IfOk result (λ r. IfSome r (λ v. IsExpression into.new v)) }
+    ensures node { IfAnswered result (IsExpression into.new) }
     ensures typed { IfOk result (λ r. expression_if into.new r ≡ Some (source_node line (function_at (whole_unit into.old) f).t (Function f))) }
     ensures kept { OnOk result (Kept into.old into.new) }
 {
@@ -150,7 +150,7 @@ fn placed_function(
     requires open { IsOpen into.old s.old }
     requires function { f < length into.old.functions }
     ensures open { IfOk result (λ r. OpenIf into.new s.new r) }
-    ensures typed { (texts : List (List ℕ)) → IfOk result (λ r. after_node texts hidden s.new into.new r ≡ Some (designator_of line f (state_of texts hidden s.old into.old))) }
+    ensures typed { (texts : Texts) → IfOk result (λ r. after_node texts hidden s.new into.new r ≡ Some (designator_of line f (state_of texts hidden s.old into.old))) }
     ensures goes { OnOk result (Goes into.old into.new) }
 {
     s.note(as_named(hidden, f))?;
@@ -169,7 +169,7 @@ fn named_function(
     requires open { IsOpen into.old s.old }
     requires function { f < length into.old.functions }
     ensures open { IfOk result (λ r. OpenIf into.new s.new r) }
-    ensures typed { (texts : List (List ℕ)) → IfOk result (λ r. after_node texts hidden s.new into.new r ≡ name_of line (Some (FunctionName f)) (state_of texts hidden s.old into.old)) }
+    ensures typed { (texts : Texts) → IfOk result (λ r. after_node texts hidden s.new into.new r ≡ name_of line (Some (FunctionName f)) (state_of texts hidden s.old into.old)) }
     ensures goes { OnOk result (Goes into.old into.new) }
 {
     if is_of_library(into, f) {
@@ -188,7 +188,7 @@ pub(crate) fn name(
 ) -> Result<Option<NodeId>, NoMemory>
     requires open { IsOpen into.old s.old }
     ensures open { IfOk result (λ r. OpenIf into.new s.new r) }
-    ensures typed { (texts : List (List ℕ)) → IfOk result (λ r. after_node texts hidden s.new into.new r ≡ name_of line (look (scopes_shown into.old.known s.old.scopes) n) (state_of texts hidden s.old into.old)) }
+    ensures typed { (texts : Texts) → IfOk result (λ r. after_node texts hidden s.new into.new r ≡ name_of line (look (scopes_shown into.old.known s.old.scopes) n) (state_of texts hidden s.old into.old)) }
     ensures goes { OnOk result (Goes into.old into.new) }
 {
     match look_up(s, into, n) {

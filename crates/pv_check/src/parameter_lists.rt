@@ -1,10 +1,10 @@
 //! Lists of parameters (C17 6.7.6.3), which declarators and the lists' declarators need one another for.
-ghost use Rattle.std.specs.Prelude.{◌≡◌, IfOk, IfSome, List, Some};
+ghost use Rattle.std.specs.Prelude.{◌≡◌, IfOk, List, Some};
 ghost use Rattle.pv_tree.specs.Tables.{Is, is_declaration, tree_at, trees_at, IsListOf};
 ghost use Rattle.pv_typed.specs.Known.{Each};
 ghost use Rattle.pv_check.specs.Declarators.{after_parameter, after_parameters, after_steps, steps_shown, ParameterKnown, StepsKnown, KnownSteps, value_after};
 ghost use Rattle.pv_check.specs.Derivations.{Parameter as WholeParameter};
-ghost use Rattle.pv_check.specs.Open.{state_of, IsOpen, Goes};
+ghost use Rattle.pv_check.specs.Open.{state_of, IsOpen, Goes, IfAnswered};
 ghost use Rattle.pv_check.specs.RowParts.{by_function};
 ghost use Rattle.pv_check.specs.Scopes.{in_new_scope};
 ghost use Rattle.pv_typed.specs.Constants.{and_then};
@@ -38,8 +38,8 @@ pub(crate) fn with_parameters(
     requires list { IsListOf u.now is_declaration list }
     requires opened { IsOpen into.old s.old }
     requires steps { StepsKnown into.old x }
-    ensures opened { IfOk result (λ r. IfSome r (λ k. IsOpen into.new s.new)) }
-    ensures goes { IfOk result (λ r. IfSome r (λ k. Goes into.old into.new)) }
+    ensures opened { IfAnswered result (λ k. IsOpen into.new s.new) }
+    ensures goes { IfAnswered result (λ k. Goes into.old into.new) }
     ensures known { IfOk result (λ r. KnownSteps into.new r) }
     ensures answer { IfOk result (λ r. after_steps t.now.texts unevaluated s.new into.new r ≡ with_parameter_list u.now.forest list variadic (steps_shown into.old.known x) (state_of t.now.texts unevaluated s.old into.old)) }
 {
@@ -64,9 +64,9 @@ fn parameters(
 ) -> Result<Option<Vec<Parameter>>, NoMemory>
     requires list { IsListOf u.now is_declaration list }
     requires opened { IsOpen into.old s.old }
-    ensures opened { IfOk result (λ r. IfSome r (λ v. IsOpen into.new s.new)) }
-    ensures goes { IfOk result (λ r. IfSome r (λ v. Goes into.old into.new)) }
-    ensures known { IfOk result (λ r. IfSome r (λ v. Each (ParameterKnown into.new) v.items)) }
+    ensures opened { IfAnswered result (λ v. IsOpen into.new s.new) }
+    ensures goes { IfAnswered result (λ v. Goes into.old into.new) }
+    ensures known { IfAnswered result (λ v. Each (ParameterKnown into.new) v.items) }
     ensures answer { IfOk result (λ r. after_parameters t.now.texts unevaluated s.new into.new r ≡ parameters (trees_at u.now.forest list) (state_of t.now.texts unevaluated s.old into.old)) }
 {
     let nodes = u.list(list);
@@ -95,9 +95,9 @@ fn parameter(
 ) -> Result<Option<Parameter>, NoMemory>
     requires node { Is u.now is_declaration n }
     requires opened { IsOpen into.old s.old }
-    ensures opened { IfOk result (λ r. IfSome r (λ p. IsOpen into.new s.new)) }
-    ensures goes { IfOk result (λ r. IfSome r (λ p. Goes into.old into.new)) }
-    ensures known { IfOk result (λ r. IfSome r (ParameterKnown into.new)) }
+    ensures opened { IfAnswered result (λ p. IsOpen into.new s.new) }
+    ensures goes { IfAnswered result (λ p. Goes into.old into.new) }
+    ensures known { IfAnswered result (ParameterKnown into.new) }
     ensures answer { IfOk result (λ r. (ps : List WholeParameter) → after_parameter t.now.texts unevaluated s.new into.new ps r ≡ parameter_in (tree_at u.now.forest n) (value_after t.now.texts unevaluated s.old into.old ps)) }
 {
     match u.decl(n) {

@@ -1,5 +1,5 @@
 //! Parameters of functions (C17 6.7.6.3), and the scope that a list of them leaves (C17 6.2.1p4).
-ghost use Rattle.std.specs.Prelude.{◌≡◌, ◌<◌, ◌≤◌, ◌+◌, ◌++◌, ◌∷◌, [], ℕ, Bool, List, Some, None, Option, true, false, length, IfOk, IfSome, OnOk, IsTrue};
+ghost use Rattle.std.specs.Prelude.{◌≡◌, ◌<◌, ◌≤◌, ◌+◌, ◌++◌, ◌∷◌, [], Bool, List, Some, None, Option, true, false, length, IfOk, IfSome, OnOk, IsTrue};
 ghost use Rattle.pv_types.specs.Adjusted.{is_adjusted};
 ghost use Rattle.pv_types.specs.Formed.{are_adjusted, parameters_at, AllBelow};
 ghost use Rattle.pv_types.specs.Known.{Known, tree, trees, tys_in, env};
@@ -10,7 +10,7 @@ ghost use Rattle.pv_typed.specs.Tables.{Stored, whole_unit};
 ghost use Rattle.pv_check.specs.Declarators.{parameter_shown, parameters_shown, signature_shown, signature_if, steps_shown, parameters_if, after_parameter, after_steps, parameters_after, with_parameter_of_type, parameter_from, ParameterKnown, SignatureKnown, StepsKnown, KnownSteps};
 ghost use Rattle.pv_check.specs.Derivations.{Parameter as WholeParameter, Signature as WholeSignature, derived_type, adjustment_of, with_parameter, means_none, no_void, proper_parameters, parameter_types, nearest_parameters};
 ghost use Rattle.pv_check.specs.Growing.{AreSized, Grows, IsType, type_if};
-ghost use Rattle.pv_check.specs.Open.{state_of, IsOpen, Goes};
+ghost use Rattle.pv_check.specs.Open.{state_of, IsOpen, Goes, Texts, IfAnswered};
 ghost use Rattle.pv_check.specs.Raw.{Raw};
 ghost use Rattle.pv_check.specs.RowParts.{parameter_of, by_function};
 ghost use Rattle.pv_check.specs.Scopes.{in_new_scope};
@@ -156,10 +156,10 @@ fn named_parameter(
     requires opened { IsOpen into.old s.old }
     requires target { t.0 < length into.old.known.terms }
     requires adjusted { IsTrue (is_adjusted (tree into.old.known t.0)) }
-    ensures opened { IfOk result (λ r. IfSome r (λ p. IsOpen into.new s.new)) }
+    ensures opened { IfAnswered result (λ p. IsOpen into.new s.new) }
     ensures goes { OnOk result (Goes into.old into.new) }
-    ensures known { IfOk result (λ r. IfSome r (ParameterKnown into.new)) }
-    ensures answer { IfOk result (λ r. (texts : List (List ℕ)) (u : Bool) (ps : List WholeParameter) → after_parameter texts u s.new into.new ps r ≡ with_parameter_of_type texts u s.old into.old ps (Some (n, line)) t) }
+    ensures known { IfAnswered result (ParameterKnown into.new) }
+    ensures answer { IfOk result (λ r. (texts : Texts) (u : Bool) (ps : List WholeParameter) → after_parameter texts u s.new into.new ps r ≡ with_parameter_of_type texts u s.old into.old ps (Some (n, line)) t) }
 {
     let o = parameter_object(into, n, line, t)?;
     if !s.declare(n, Entry::Object(o))? {
@@ -183,10 +183,10 @@ pub(crate) fn parameter_of(
     requires opened { IsOpen into.old s.old }
     requires base { base.0 < length into.old.known.terms }
     requires steps { AreSteps into.old.known steps.now }
-    ensures opened { IfOk result (λ r. IfSome r (λ p. IsOpen into.new s.new)) }
+    ensures opened { IfAnswered result (λ p. IsOpen into.new s.new) }
     ensures goes { OnOk result (Goes into.old into.new) }
-    ensures known { IfOk result (λ r. IfSome r (ParameterKnown into.new)) }
-    ensures answer { IfOk result (λ r. (texts : List (List ℕ)) (u : Bool) (ps : List WholeParameter) (g : Option WholeSignature) →
+    ensures known { IfAnswered result (ParameterKnown into.new) }
+    ensures answer { IfOk result (λ r. (texts : Texts) (u : Bool) (ps : List WholeParameter) (g : Option WholeSignature) →
         after_parameter texts u s.new into.new ps r ≡ parameter_from texts u s.old into.old named base ps steps.now g) }
 {
     let Some(t) = parameter_type_in(into, steps, base)? else {
@@ -333,7 +333,7 @@ pub(crate) fn entered(s: &mut Scopes, into: &TypedUnit) -> Result<(), NoMemory>
     requires opened { IsOpen into.now s.old }
     ensures opened { OnOk result (IsOpen into.now s.new) }
     ensures deeper { OnOk result (length s.new.scopes ≡ length s.old.scopes + 1) }
-    ensures answer { OnOk result ((texts : List (List ℕ)) (u : Bool) → state_of texts u s.new into.now ≡ in_new_scope (state_of texts u s.old into.now)) }
+    ensures answer { OnOk result ((texts : Texts) (u : Bool) → state_of texts u s.new into.now ≡ in_new_scope (state_of texts u s.old into.now)) }
 {
     s.enter()?;
     Ok(())
@@ -351,10 +351,10 @@ pub(crate) fn by_function(
     requires deep { 1 < length s.old.scopes }
     requires steps { StepsKnown into.old x }
     requires parameters { Each (ParameterKnown into.old) ps.items }
-    ensures opened { IfOk result (λ r. IfSome r (λ k. IsOpen into.new s.new)) }
+    ensures opened { IfAnswered result (λ k. IsOpen into.new s.new) }
     ensures goes { OnOk result (Goes into.old into.new) }
     ensures known { IfOk result (λ r. KnownSteps into.new r) }
-    ensures answer { IfOk result (λ r. (texts : List (List ℕ)) (u : Bool) → after_steps texts u s.new into.new r ≡ by_function variadic (steps_shown into.old.known x) (parameters_after texts u s.old into.old ps.items)) }
+    ensures answer { IfOk result (λ r. (texts : Texts) (u : Bool) → after_steps texts u s.new into.new r ≡ by_function variadic (steps_shown into.old.known x) (parameters_after texts u s.old into.old ps.items)) }
 {
     let Some(list) = proper(into, variadic, ps) else {
         return Ok(None);

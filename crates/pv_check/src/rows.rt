@@ -1,5 +1,5 @@
 //! What an expression makes of its typed operands, beside the scopes, which stay open.
-ghost use Rattle.std.specs.Prelude.{◌≡◌, Bool, IfOk, IfSome, OnOk, Some, List, ℕ};
+ghost use Rattle.std.specs.Prelude.{◌≡◌, Bool, IfOk, OnOk, Some};
 ghost use Rattle.pv_typed.specs.Known.{AreKnown};
 ghost use Rattle.pv_typed.specs.Tables.{whole_unit};
 ghost use Rattle.pv_typed.specs.NodeTrees.{expression_at, IsExpression};
@@ -7,7 +7,7 @@ ghost use Rattle.pv_typed.specs.Constants.{and_then};
 ghost use Rattle.pv_check.specs.Arms.{after_node, OpenIf, row_of_one, row_of_two, operand_after, conditional_from};
 ghost use Rattle.pv_check.specs.Assignment.{assign_of};
 ghost use Rattle.pv_check.specs.Kept.{Kept, AreSmall, expression_if, env_of};
-ghost use Rattle.pv_check.specs.Open.{state_of, IsOpen};
+ghost use Rattle.pv_check.specs.Open.{IsOpen, Texts, IfAnswered};
 ghost use Rattle.pv_check.specs.Postfix.{arrow_from, increment_of};
 ghost use Rattle.pv_check.specs.Rows.{operand};
 ghost use Rattle.pv_check.specs.RowParts.{subscript, member, arrow, increment, unary, binary, conditional, assignment, comma};
@@ -36,7 +36,7 @@ fn arrow_node(
     requires known { AreKnown into.old }
     requires small { AreSmall into.old.known }
     requires node { IsExpression into.old a }
-    ensures node { IfOk result (λ r. IfSome r (λ v. IsExpression into.new v)) }
+    ensures node { IfAnswered result (IsExpression into.new) }
     ensures typed { IfOk result (λ r. expression_if into.new r ≡ and_then (value_of (env_of into.old) (expression_at into.old a)) (arrow_from (whole_unit into.old).completed line name)) }
     ensures kept { OnOk result (Kept into.old into.new) }
 {
@@ -61,7 +61,7 @@ fn increment_node(
 ) -> Result<Option<NodeId>, NoMemory>
     requires known { AreKnown into.old }
     requires node { IsExpression into.old a }
-    ensures node { IfOk result (λ r. IfSome r (λ v. IsExpression into.new v)) }
+    ensures node { IfAnswered result (IsExpression into.new) }
     ensures typed { IfOk result (λ r. expression_if into.new r ≡ increment_of (env_of into.old) line op (expression_at into.old a)) }
     ensures kept { OnOk result (Kept into.old into.new) }
 {
@@ -81,7 +81,7 @@ fn assign_node(
     requires known { AreKnown into.old }
     requires left { IsExpression into.old a }
     requires right { IsExpression into.old b }
-    ensures node { IfOk result (λ r. IfSome r (λ v. IsExpression into.new v)) }
+    ensures node { IfAnswered result (IsExpression into.new) }
     ensures typed { IfOk result (λ r. expression_if into.new r ≡ assign_of (env_of into.old) line op (expression_at into.old a) (expression_at into.old b)) }
     ensures kept { OnOk result (Kept into.old into.new) }
 {
@@ -104,7 +104,7 @@ fn member(
     requires open { IsOpen into.old s.now }
     requires node { IsExpression into.old a }
     ensures open { IfOk result (λ r. OpenIf into.new s.now r) }
-    ensures typed { (texts : List (List ℕ)) (hidden : Bool) → IfOk result (λ r. after_node texts hidden s.now into.new r ≡ member line name (operand_after texts hidden s.now into.old a)) }
+    ensures typed { (texts : Texts) (hidden : Bool) → IfOk result (λ r. after_node texts hidden s.now into.new r ≡ member line name (operand_after texts hidden s.now into.old a)) }
     ensures kept { OnOk result (Kept into.old into.new) }
 {
     let r = member_from(into, line, name, a)?;
@@ -122,7 +122,7 @@ fn arrow(
     requires open { IsOpen into.old s.now }
     requires node { IsExpression into.old a }
     ensures open { IfOk result (λ r. OpenIf into.new s.now r) }
-    ensures typed { (texts : List (List ℕ)) (hidden : Bool) → IfOk result (λ r. after_node texts hidden s.now into.new r ≡ and_then (operand (Some (operand_after texts hidden s.now into.old a))) (arrow line name)) }
+    ensures typed { (texts : Texts) (hidden : Bool) → IfOk result (λ r. after_node texts hidden s.now into.new r ≡ and_then (operand (Some (operand_after texts hidden s.now into.old a))) (arrow line name)) }
     ensures kept { OnOk result (Kept into.old into.new) }
 {
     let r = arrow_node(into, line, name, a)?;
@@ -140,7 +140,7 @@ fn increment(
     requires open { IsOpen into.old s.now }
     requires node { IsExpression into.old a }
     ensures open { IfOk result (λ r. OpenIf into.new s.now r) }
-    ensures typed { (texts : List (List ℕ)) (hidden : Bool) → IfOk result (λ r. after_node texts hidden s.now into.new r ≡ increment line op (operand_after texts hidden s.now into.old a)) }
+    ensures typed { (texts : Texts) (hidden : Bool) → IfOk result (λ r. after_node texts hidden s.now into.new r ≡ increment line op (operand_after texts hidden s.now into.old a)) }
     ensures kept { OnOk result (Kept into.old into.new) }
 {
     let r = increment_node(into, line, op, a)?;
@@ -158,7 +158,7 @@ fn unary(
     requires open { IsOpen into.old s.now }
     requires node { IsExpression into.old a }
     ensures open { IfOk result (λ r. OpenIf into.new s.now r) }
-    ensures typed { (texts : List (List ℕ)) (hidden : Bool) → IfOk result (λ r. after_node texts hidden s.now into.new r ≡ unary line op (operand_after texts hidden s.now into.old a)) }
+    ensures typed { (texts : Texts) (hidden : Bool) → IfOk result (λ r. after_node texts hidden s.now into.new r ≡ unary line op (operand_after texts hidden s.now into.old a)) }
     ensures kept { OnOk result (Kept into.old into.new) }
 {
     let r = unary_node(into, line, op, a)?;
@@ -176,7 +176,7 @@ pub(crate) fn one(
     requires open { IsOpen into.old s.now }
     requires node { IsExpression into.old a }
     ensures open { IfOk result (λ r. OpenIf into.new s.now r) }
-    ensures typed { (texts : List (List ℕ)) (hidden : Bool) → IfOk result (λ r. after_node texts hidden s.now into.new r ≡ row_of_one what line (operand_after texts hidden s.now into.old a)) }
+    ensures typed { (texts : Texts) (hidden : Bool) → IfOk result (λ r. after_node texts hidden s.now into.new r ≡ row_of_one what line (operand_after texts hidden s.now into.old a)) }
     ensures kept { OnOk result (Kept into.old into.new) }
 {
     match what {
@@ -199,7 +199,7 @@ fn subscript(
     requires left { IsExpression into.old a }
     requires right { IsExpression into.old b }
     ensures open { IfOk result (λ r. OpenIf into.new s.now r) }
-    ensures typed { (texts : List (List ℕ)) (hidden : Bool) → IfOk result (λ r. after_node texts hidden s.now into.new r ≡ subscript line (expression_at into.old a) (operand_after texts hidden s.now into.old b)) }
+    ensures typed { (texts : Texts) (hidden : Bool) → IfOk result (λ r. after_node texts hidden s.now into.new r ≡ subscript line (expression_at into.old a) (operand_after texts hidden s.now into.old b)) }
     ensures kept { OnOk result (Kept into.old into.new) }
 {
     let r = subscript_node(into, line, a, b)?;
@@ -219,7 +219,7 @@ fn binary(
     requires left { IsExpression into.old a }
     requires right { IsExpression into.old b }
     ensures open { IfOk result (λ r. OpenIf into.new s.now r) }
-    ensures typed { (texts : List (List ℕ)) (hidden : Bool) → IfOk result (λ r. after_node texts hidden s.now into.new r ≡ binary line op (expression_at into.old a) (operand_after texts hidden s.now into.old b)) }
+    ensures typed { (texts : Texts) (hidden : Bool) → IfOk result (λ r. after_node texts hidden s.now into.new r ≡ binary line op (expression_at into.old a) (operand_after texts hidden s.now into.old b)) }
     ensures kept { OnOk result (Kept into.old into.new) }
 {
     let r = binary_node(into, line, op, a, b)?;
@@ -239,7 +239,7 @@ fn assignment(
     requires left { IsExpression into.old a }
     requires right { IsExpression into.old b }
     ensures open { IfOk result (λ r. OpenIf into.new s.now r) }
-    ensures typed { (texts : List (List ℕ)) (hidden : Bool) → IfOk result (λ r. after_node texts hidden s.now into.new r ≡ assignment line op (expression_at into.old a) (operand_after texts hidden s.now into.old b)) }
+    ensures typed { (texts : Texts) (hidden : Bool) → IfOk result (λ r. after_node texts hidden s.now into.new r ≡ assignment line op (expression_at into.old a) (operand_after texts hidden s.now into.old b)) }
     ensures kept { OnOk result (Kept into.old into.new) }
 {
     let r = assign_node(into, line, op, a, b)?;
@@ -258,7 +258,7 @@ fn comma(
     requires left { IsExpression into.old a }
     requires right { IsExpression into.old b }
     ensures open { IfOk result (λ r. OpenIf into.new s.now r) }
-    ensures typed { (texts : List (List ℕ)) (hidden : Bool) → IfOk result (λ r. after_node texts hidden s.now into.new r ≡ comma line (expression_at into.old a) (operand_after texts hidden s.now into.old b)) }
+    ensures typed { (texts : Texts) (hidden : Bool) → IfOk result (λ r. after_node texts hidden s.now into.new r ≡ comma line (expression_at into.old a) (operand_after texts hidden s.now into.old b)) }
     ensures kept { OnOk result (Kept into.old into.new) }
 {
     let r = comma_node(into, line, a, b)?;
@@ -278,7 +278,7 @@ pub(crate) fn two(
     requires left { IsExpression into.old a }
     requires right { IsExpression into.old b }
     ensures open { IfOk result (λ r. OpenIf into.new s.now r) }
-    ensures typed { (texts : List (List ℕ)) (hidden : Bool) → IfOk result (λ r. after_node texts hidden s.now into.new r ≡ row_of_two what line (expression_at into.old a) (operand_after texts hidden s.now into.old b)) }
+    ensures typed { (texts : Texts) (hidden : Bool) → IfOk result (λ r. after_node texts hidden s.now into.new r ≡ row_of_two what line (expression_at into.old a) (operand_after texts hidden s.now into.old b)) }
     ensures kept { OnOk result (Kept into.old into.new) }
 {
     match what {
@@ -303,7 +303,7 @@ pub(crate) fn three(
     requires second { IsExpression into.old b }
     requires third { IsExpression into.old c }
     ensures open { IfOk result (λ r. OpenIf into.new s.now r) }
-    ensures typed { (texts : List (List ℕ)) (hidden : Bool) → IfOk result (λ r. after_node texts hidden s.now into.new r ≡ conditional_from into.old line a b (operand_after texts hidden s.now into.old c)) }
+    ensures typed { (texts : Texts) (hidden : Bool) → IfOk result (λ r. after_node texts hidden s.now into.new r ≡ conditional_from into.old line a b (operand_after texts hidden s.now into.old c)) }
     ensures kept { OnOk result (Kept into.old into.new) }
 {
     let r = conditional_node(s.allocator(), into, line, a, b, c)?;

@@ -1,8 +1,8 @@
 //! Names that have a meaning of their own (C17 5.1.2.2.1p1, 7.21.6.3p1), and the name that a declarator declares.
-ghost use Rattle.std.specs.Prelude.{◌≡◌, ◌+◌, ℕ, Bool, List, IfSome};
+ghost use Rattle.std.specs.Prelude.{◌≡◌, ◌+◌, Bool, IfSome};
 ghost use Rattle.pv_tree.specs.Tables.{Is, is_declarator, declarator_at, optional_at};
 ghost use Rattle.pv_check.specs.Derivations.{declared_name, optional_name, is_printf_declarator, may_be_variadic};
-ghost use Rattle.pv_check.specs.Open.{state_of};
+ghost use Rattle.pv_check.specs.Open.{state_of, Texts};
 ghost use Rattle.pv_check.specs.Texts.{same_text, has_text};
 ghost use Rattle.pv_check.specs.PrintfFormats.{is_printf};
 ghost use Rattle.pv_typed.specs.Mains.{named_main};
@@ -91,7 +91,7 @@ pub(crate) fn may_be_variadic(
     n: NodeId,
 ) -> bool
     requires { Is u.now is_declarator n }
-    ensures { (texts : List (List ℕ)) (h : Bool) → result ≡ may_be_variadic variadic (declarator_at u.now.forest n) (state_of texts h s.now into.now) }
+    ensures { (texts : Texts) (h : Bool) → result ≡ may_be_variadic variadic (declarator_at u.now.forest n) (state_of texts h s.now into.now) }
 {
     if !variadic {
         return true;

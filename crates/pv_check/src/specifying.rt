@@ -10,7 +10,7 @@ ghost use Rattle.pv_typed.specs.Constants.{and_then};
 ghost use Rattle.pv_tree.specs.Nodes.{specifier_of};
 ghost use Rattle.pv_tree.specs.Syntax.{Keyword};
 ghost use Rattle.pv_types.specs.Known.{Known};
-ghost use Rattle.pv_check.specs.Open.{state_of, IsOpen, Goes, EntryKnown};
+ghost use Rattle.pv_check.specs.Open.{state_of, IsOpen, Goes, EntryKnown, IfAnswered};
 ghost use Rattle.pv_check.specs.Raw.{meaning_if};
 ghost use Rattle.pv_typed.specs.Tables.{Stored};
 ghost use Rattle.pv_check.specs.Growing.{IsType, type_if};
@@ -65,8 +65,8 @@ fn composite_seen(
     requires named { IsType into.old.known seen.named }
     ensures opened { OnOk result (IsOpen into.new s.new) }
     ensures goes { OnOk result (Goes into.old into.new) }
-    ensures known { IfOk result (λ r. IfSome r (λ x. IsType into.new.known x.named)) }
-    ensures bounded { IfOk result (λ r. IfSome r (λ x. total x.words ≤ total seen.words)) }
+    ensures known { IfAnswered result (λ x. IsType into.new.known x.named) }
+    ensures bounded { IfAnswered result (λ x. total x.words ≤ total seen.words) }
     ensures answer { IfOk result (λ r. after_seen t.now.texts unevaluated s.new into.new r ≡ with_composite_tag union name (seen_in into.old.known seen) (state_of t.now.texts unevaluated s.old into.old)) }
 {
     let Some(named) = composite_tag(s, into, union, name)? else {
@@ -88,8 +88,8 @@ fn enumeration_seen(
     requires named { IsType into.old.known seen.named }
     ensures opened { OnOk result (IsOpen into.new s.now) }
     ensures goes { OnOk result (Goes into.old into.new) }
-    ensures known { IfOk result (λ r. IfSome r (λ x. IsType into.new.known x.named)) }
-    ensures bounded { IfOk result (λ r. IfSome r (λ x. total x.words ≤ total seen.words)) }
+    ensures known { IfAnswered result (λ x. IsType into.new.known x.named) }
+    ensures bounded { IfAnswered result (λ x. total x.words ≤ total seen.words) }
     ensures answer { IfOk result (λ r. after_seen t.now.texts unevaluated s.now into.new r ≡ with_enumeration_tag name (seen_in into.old.known seen) (state_of t.now.texts unevaluated s.now into.old)) }
 {
     let Some(named) = enumeration_tag(s, into, name)? else {
@@ -192,8 +192,8 @@ fn named_specifier(
     requires named { IsType into.old.known seen.named }
     ensures opened { OnOk result (IsOpen into.new s.new) }
     ensures goes { OnOk result (Goes into.old into.new) }
-    ensures known { IfOk result (λ r. IfSome r (λ x. IsType into.new.known x.named)) }
-    ensures bounded { IfOk result (λ r. IfSome r (λ x. total x.words ≤ total seen.words)) }
+    ensures known { IfAnswered result (λ x. IsType into.new.known x.named) }
+    ensures bounded { IfAnswered result (λ x. total x.words ≤ total seen.words) }
     ensures answer { (f : Forest) (line : ℕ) → IfOk result (λ r. after_seen t.now.texts unevaluated s.new into.new r ≡ specifier (specifier_of f line spec) (seen_in into.old.known seen) (state_of t.now.texts unevaluated s.old into.old)) }
 {
     match spec {
@@ -220,8 +220,8 @@ fn plain_specifier(
     requires few { total seen.words < 2 ^ 64 - 1 }
     ensures opened { OnOk result (IsOpen into.new s.new) }
     ensures goes { OnOk result (Goes into.old into.new) }
-    ensures known { IfOk result (λ r. IfSome r (λ x. IsType into.new.known x.named)) }
-    ensures bounded { IfOk result (λ r. IfSome r (λ x. total x.words ≤ total seen.words + 1)) }
+    ensures known { IfAnswered result (λ x. IsType into.new.known x.named) }
+    ensures bounded { IfAnswered result (λ x. total x.words ≤ total seen.words + 1) }
     ensures answer { (f : Forest) (line : ℕ) → IfOk result (λ r. after_seen t.now.texts unevaluated s.new into.new r ≡ specifier (specifier_of f line spec) (seen_in into.old.known seen) (state_of t.now.texts unevaluated s.old into.old)) }
 {
     if let Some(word) = keyword_of(spec) {
@@ -245,10 +245,10 @@ pub(crate) fn specifier(
     requires opened { IsOpen into.old s.old }
     requires named { IsType into.old.known seen.named }
     requires few { total seen.words < 2 ^ 64 - 1 }
-    ensures opened { IfOk result (λ r. IfSome r (λ x. IsOpen into.new s.new)) }
-    ensures goes { IfOk result (λ r. IfSome r (λ x. Goes into.old into.new)) }
-    ensures known { IfOk result (λ r. IfSome r (λ x. IsType into.new.known x.named)) }
-    ensures bounded { IfOk result (λ r. IfSome r (λ x. total x.words ≤ total seen.words + 1)) }
+    ensures opened { IfAnswered result (λ x. IsOpen into.new s.new) }
+    ensures goes { IfAnswered result (λ x. Goes into.old into.new) }
+    ensures known { IfAnswered result (λ x. IsType into.new.known x.named) }
+    ensures bounded { IfAnswered result (λ x. total x.words ≤ total seen.words + 1) }
     ensures answer { IfOk result (λ r. after_seen t.now.texts unevaluated s.new into.new r ≡ specifier (specifier_at u.now.forest n) (seen_in into.old.known seen) (state_of t.now.texts unevaluated s.old into.old)) }
 {
     let spec = u.spec(n);
@@ -278,10 +278,10 @@ fn listed_specifier(
     requires list { IsListOf u.now is_declaration (list_of x) }
     requires opened { IsOpen into.old s.old }
     requires named { IsType into.old.known seen.named }
-    ensures opened { IfOk result (λ r. IfSome r (λ y. IsOpen into.new s.new)) }
-    ensures goes { IfOk result (λ r. IfSome r (λ y. Goes into.old into.new)) }
-    ensures known { IfOk result (λ r. IfSome r (λ y. IsType into.new.known y.named)) }
-    ensures bounded { IfOk result (λ r. IfSome r (λ y. total y.words ≤ total seen.words)) }
+    ensures opened { IfAnswered result (λ y. IsOpen into.new s.new) }
+    ensures goes { IfAnswered result (λ y. Goes into.old into.new) }
+    ensures known { IfAnswered result (λ y. IsType into.new.known y.named) }
+    ensures bounded { IfAnswered result (λ y. total y.words ≤ total seen.words) }
     ensures answer { IfOk result (λ r. after_seen t.now.texts unevaluated s.new into.new r ≡ list_specifier u.now.forest x (seen_in into.old.known seen) (state_of t.now.texts unevaluated s.old into.old)) }
 {
     match x {
@@ -306,9 +306,9 @@ pub fn specifiers(
 ) -> Result<Option<Seen>, NoMemory>
     requires list { IsListOf u.now is_specifier list }
     requires opened { IsOpen into.old s.old }
-    ensures opened { IfOk result (λ r. IfSome r (λ x. IsOpen into.new s.new)) }
-    ensures goes { IfOk result (λ r. IfSome r (λ x. Goes into.old into.new)) }
-    ensures known { IfOk result (λ r. IfSome r (λ x. IsType into.new.known x.named)) }
+    ensures opened { IfAnswered result (λ x. IsOpen into.new s.new) }
+    ensures goes { IfAnswered result (λ x. Goes into.old into.new) }
+    ensures known { IfAnswered result (λ x. IsType into.new.known x.named) }
     ensures answer { IfOk result (λ r. after_seen t.now.texts unevaluated s.new into.new r ≡ specifiers (trees_at u.now.forest list) (state_of t.now.texts unevaluated s.old into.old)) }
 {
     let nodes = u.list(list);

@@ -1,6 +1,6 @@
 // Structures, unions and enumerations: what declares a tag and what it names (C17 6.7.2.3).
 ghost use Rattle.std.specs.Bool.{beq};
-ghost use Rattle.std.specs.Prelude.{◌≡◌, ◌&&◌, ◌<◌, ◌≤◌, ◌+◌, ◌++◌, ◌∷◌, [], ℕ, Bool, List, Some, None, length, IfOk, OnOk, IfSome, IsTrue};
+ghost use Rattle.std.specs.Prelude.{◌≡◌, ◌&&◌, ◌<◌, ◌≤◌, ◌+◌, ◌++◌, ◌∷◌, [], Bool, Some, None, length, IfOk, OnOk, IfSome, IsTrue};
 ghost use Rattle.pv_types.specs.Known.{heading_at, tree, trees, tree_in, env};
 ghost use Rattle.pv_types.specs.Formed.{IsKnown, members_in};
 ghost use Rattle.pv_types.specs.Layouts.{tag_type, look};
@@ -10,7 +10,7 @@ ghost use Rattle.pv_typed.specs.Known.{AreKnown};
 ghost use Rattle.pv_typed.specs.Entries.{with_heading};
 ghost use Rattle.pv_check.specs.Growing.{AreSized, is_sized, IsType};
 ghost use Rattle.pv_check.specs.Raw.{Raw, tag_meaning_if};
-ghost use Rattle.pv_check.specs.Open.{state_of, IsOpen, Goes, HasTag, TagKnown, after_type, after_number};
+ghost use Rattle.pv_check.specs.Open.{state_of, IsOpen, Goes, HasTag, TagKnown, after_type, after_number, Texts, IfAnswered};
 ghost use Rattle.pv_check.specs.Scopes.{look_tag};
 ghost use Rattle.pv_check.specs.Tags.{declared_new, composite_named, enumeration_named, is_open, opened_named, tag_before_list};
 
@@ -65,7 +65,7 @@ fn declared_new(
     ensures opened { OnOk result (IsOpen into.new s.new) }
     ensures goes { OnOk result (Goes into.old into.new) }
     ensures known { IfOk result (λ n. HasTag into.new union n) }
-    ensures answer { IfOk result (λ n. (texts : List (List ℕ)) (u : Bool) → record { value = n; state = state_of texts u s.new into.new } ≡ declared_new name union (state_of texts u s.old into.old)) }
+    ensures answer { IfOk result (λ n. (texts : Texts) (u : Bool) → record { value = n; state = state_of texts u s.new into.new } ≡ declared_new name union (state_of texts u s.old into.old)) }
 {
     let number = new_tag(into, Some(name), union)?;
     s.bind_tag(name, TagEntry::Composite(number))?;
@@ -109,7 +109,7 @@ pub fn composite_named(
     ensures opened { OnOk result (IsOpen into.new s.new) }
     ensures goes { OnOk result (Goes into.old into.new) }
     ensures known { IfOk result (λ r. IsType into.new.known r) }
-    ensures answer { IfOk result (λ r. (texts : List (List ℕ)) (u : Bool) → after_type texts u s.new into.new r ≡ composite_named union name (tag_meaning_if into.old.known found) (state_of texts u s.old into.old)) }
+    ensures answer { IfOk result (λ r. (texts : Texts) (u : Bool) → after_type texts u s.new into.new r ≡ composite_named union name (tag_meaning_if into.old.known found) (state_of texts u s.old into.old)) }
 {
     match found {
         None => {
@@ -140,7 +140,7 @@ fn enumeration_named(
     ensures opened { OnOk result (IsOpen into.new s.now) }
     ensures goes { OnOk result (Goes into.old into.new) }
     ensures known { IfOk result (λ r. IsType into.new.known r) }
-    ensures answer { IfOk result (λ r. (texts : List (List ℕ)) (u : Bool) → after_type texts u s.now into.new r ≡ enumeration_named (tag_meaning_if into.old.known found) (state_of texts u s.now into.old)) }
+    ensures answer { IfOk result (λ r. (texts : Texts) (u : Bool) → after_type texts u s.now into.new r ≡ enumeration_named (tag_meaning_if into.old.known found) (state_of texts u s.now into.old)) }
 {
     match found {
         Some(TagEntry::Enumerated) => {
@@ -162,7 +162,7 @@ pub(crate) fn composite_tag(
     ensures opened { OnOk result (IsOpen into.new s.new) }
     ensures goes { OnOk result (Goes into.old into.new) }
     ensures known { IfOk result (λ r. IsType into.new.known r) }
-    ensures answer { IfOk result (λ r. (texts : List (List ℕ)) (u : Bool) → after_type texts u s.new into.new r ≡ composite_named union name (look_tag (state_of texts u s.old into.old).scopes name) (state_of texts u s.old into.old)) }
+    ensures answer { IfOk result (λ r. (texts : Texts) (u : Bool) → after_type texts u s.new into.new r ≡ composite_named union name (look_tag (state_of texts u s.old into.old).scopes name) (state_of texts u s.old into.old)) }
 {
     let found = s.tag_entry(name);
     let r = composite_named(s, into, union, name, found)?;
@@ -179,7 +179,7 @@ pub(crate) fn enumeration_tag(
     ensures opened { OnOk result (IsOpen into.new s.now) }
     ensures goes { OnOk result (Goes into.old into.new) }
     ensures known { IfOk result (λ r. IsType into.new.known r) }
-    ensures answer { IfOk result (λ r. (texts : List (List ℕ)) (u : Bool) → after_type texts u s.now into.new r ≡ enumeration_named (look_tag (state_of texts u s.now into.old).scopes name) (state_of texts u s.now into.old)) }
+    ensures answer { IfOk result (λ r. (texts : Texts) (u : Bool) → after_type texts u s.now into.new r ≡ enumeration_named (look_tag (state_of texts u s.now into.old).scopes name) (state_of texts u s.now into.old)) }
 {
     let found = s.tag_entry(name);
     let r = enumeration_named(s, into, found)?;
@@ -189,7 +189,7 @@ pub(crate) fn enumeration_tag(
 /// Whether the tag has no members yet (C17 6.7.2.3p1).
 pub(crate) fn is_open(into: &TypedUnit, number: u32) -> bool
     requires { number < length into.now.known.tags }
-    ensures value { (texts : List (List ℕ)) (u : Bool) (s : Raw) → result ≡ is_open (state_of texts u s into.now) number }
+    ensures value { (texts : Texts) (u : Bool) (s : Raw) → result ≡ is_open (state_of texts u s into.now) number }
     ensures fresh { IsTrue result → look (env into.now.known) number ≡ None }
     ensures empty { IsTrue result → members_in into.now.known.done number ≡ [] }
 {
@@ -199,7 +199,7 @@ pub(crate) fn is_open(into: &TypedUnit, number: u32) -> bool
 /// Whether members of this kind may be given to the tag (C17 6.7.2.3p1).
 fn may_open(into: &TypedUnit, union: bool, number: u32) -> bool
     requires { number < length into.now.known.tags }
-    ensures { (texts : List (List ℕ)) (u : Bool) (s : Raw) → result ≡ beq (heading_at into.now.known.tags number).union union && is_open (state_of texts u s into.now) number }
+    ensures { (texts : Texts) (u : Bool) (s : Raw) → result ≡ beq (heading_at into.now.known.tags number).union union && is_open (state_of texts u s into.now) number }
 {
     let other = is_union(into, number);
     other == union && is_open(into, number)
@@ -218,8 +218,8 @@ fn opened_named(
     requires found { IfSome found (TagKnown into.old) }
     ensures opened { OnOk result (IsOpen into.new s.new) }
     ensures goes { OnOk result (Goes into.old into.new) }
-    ensures known { IfOk result (λ r. IfSome r (λ n. HasTag into.new union n)) }
-    ensures answer { IfOk result (λ r. (texts : List (List ℕ)) (u : Bool) → after_number texts u s.new into.new r ≡ opened_named union name (tag_meaning_if into.old.known found) (state_of texts u s.old into.old)) }
+    ensures known { IfAnswered result (HasTag into.new union) }
+    ensures answer { IfOk result (λ r. (texts : Texts) (u : Bool) → after_number texts u s.new into.new r ≡ opened_named union name (tag_meaning_if into.old.known found) (state_of texts u s.old into.old)) }
 {
     match found {
         None => {
@@ -247,8 +247,8 @@ pub(crate) fn opened(
     requires opened { IsOpen into.old s.old }
     ensures opened { OnOk result (IsOpen into.new s.new) }
     ensures goes { OnOk result (Goes into.old into.new) }
-    ensures known { IfOk result (λ r. IfSome r (λ n. HasTag into.new union n)) }
-    ensures answer { IfOk result (λ r. (texts : List (List ℕ)) (u : Bool) → after_number texts u s.new into.new r ≡ tag_before_list union name (state_of texts u s.old into.old)) }
+    ensures known { IfAnswered result (HasTag into.new union) }
+    ensures answer { IfOk result (λ r. (texts : Texts) (u : Bool) → after_number texts u s.new into.new r ≡ tag_before_list union name (state_of texts u s.old into.old)) }
 {
     match name {
         None => {

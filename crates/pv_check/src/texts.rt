@@ -1,5 +1,5 @@
 //! String literals (C17 6.4.5).
-ghost use Rattle.std.specs.Prelude.{◌≡◌, ◌<◌, ◌+◌, ◌^◌, ℕ, List, [], Some, IfOk, IfSome, OnOk, not, length, slice_index_or};
+ghost use Rattle.std.specs.Prelude.{◌≡◌, ◌<◌, ◌+◌, ◌^◌, [], Some, IfOk, OnOk, not, length, slice_index_or};
 ghost use Rattle.pv_types.specs.Ty.{IntTy, ArrayOf};
 ghost use Rattle.pv_num.specs.declared.kinds.IntKind.TheVariants.{Char};
 ghost use Rattle.pv_typed.specs.TypedTree.{String};
@@ -8,7 +8,7 @@ ghost use Rattle.pv_typed.specs.Tables.{whole_unit};
 ghost use Rattle.pv_typed.specs.NodeTrees.{expression_at, IsExpression};
 ghost use Rattle.pv_typed.specs.Formed.{Grown};
 ghost use Rattle.pv_typed.specs.Known.{AreKnown};
-ghost use Rattle.pv_check.specs.Open.{state_of, IsOpen, Goes};
+ghost use Rattle.pv_check.specs.Open.{state_of, IsOpen, Goes, Texts};
 ghost use Rattle.pv_check.specs.Arms.{after_node, OpenIf};
 ghost use Rattle.pv_check.specs.Kept.{Kept, expression_if};
 ghost use Rattle.pv_check.specs.StringLiterals.{concatenation_of, bytes_of_text, text_of};
@@ -57,7 +57,7 @@ fn literal(
     requires some { 0 < length bytes.now }
     requires few { length bytes.now < 2 ^ 32 }
     ensures open { IfOk result (λ r. OpenIf into.new s.now r) }
-    ensures typed { (texts : List (List ℕ)) → IfOk result (λ r. after_node texts hidden s.now into.new r ≡ Some (text_of line bytes.now (state_of texts hidden s.now into.old))) }
+    ensures typed { (texts : Texts) → IfOk result (λ r. after_node texts hidden s.now into.new r ≡ Some (text_of line bytes.now (state_of texts hidden s.now into.old))) }
     ensures goes { OnOk result (Goes into.old into.new) }
 {
     let l = into.add_literal(bytes, line, !hidden)?;

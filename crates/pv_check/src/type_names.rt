@@ -1,11 +1,11 @@
 //! Type names (C17 6.7.7), and what specifiers and the steps of declarators come to.
-ghost use Rattle.std.specs.Prelude.{◌≡◌, ◌<◌, ◌≤◌, Bool, List, length, Some, None, IfOk, OnOk, false, IfSome, ℕ};
+ghost use Rattle.std.specs.Prelude.{◌≡◌, ◌<◌, ◌≤◌, Bool, length, Some, None, IfOk, OnOk, false, IfSome, ℕ};
 ghost use Rattle.pv_types.specs.Known.{tree, env};
 ghost use Rattle.pv_typed.specs.Tables.{whole_unit};
 ghost use Rattle.pv_typed.specs.Known.{AreKnown};
 ghost use Rattle.pv_check.specs.Derivations.{derived_type};
 ghost use Rattle.pv_check.specs.Growing.{AreSized, IsType, type_if};
-ghost use Rattle.pv_check.specs.Open.{IsOpen, Goes, state_of, after_type};
+ghost use Rattle.pv_check.specs.Open.{IsOpen, Goes, state_of, after_type, Texts, IfAnswered};
 ghost use Rattle.pv_check.specs.Seeing.{seen_in, specified_if, IsSpecified};
 ghost use Rattle.pv_check.specs.Specifiers.{specification_of};
 ghost use Rattle.pv_check.specs.SpecifierParts.{without_storage};
@@ -113,8 +113,8 @@ pub fn specified_type(
 ) -> Result<Option<TypeId>, NoMemory>
     requires specs { IsListOf u.now is_specifier specs }
     requires opened { IsOpen into.old s.old }
-    ensures opened { IfOk result (λ r. IfSome r (λ k. IsOpen into.new s.new)) }
-    ensures goes { IfOk result (λ r. IfSome r (λ k. Goes into.old into.new)) }
+    ensures opened { IfAnswered result (λ k. IsOpen into.new s.new) }
+    ensures goes { IfAnswered result (λ k. Goes into.old into.new) }
     ensures known { IfOk result (λ r. IsType into.new.known r) }
     ensures answer { IfOk result (λ r. after_type t.now.texts unevaluated s.new into.new r ≡ and_then (specifiers (trees_at u.now.forest specs) (state_of t.now.texts unevaluated s.old into.old)) type_without_storage) }
 {
@@ -164,9 +164,9 @@ fn word_type(
     base: Option<IntKind>,
 ) -> Result<Option<TypeId>, NoMemory>
     requires opened { IsOpen into.old s.now }
-    ensures open { IfOk result (λ r. IfSome r (λ x. (x.0 < length into.new.known.terms) × IsOpen into.new s.now)) }
-    ensures goes { IfOk result (λ r. IfSome r (λ v. Goes into.old into.new)) }
-    ensures answer { (texts : List (List ℕ)) (hidden : Bool) → IfOk result (λ r. after_type texts hidden s.now into.new r ≡ give (Some (base_of base)) (state_of texts hidden s.now into.old)) }
+    ensures open { IfAnswered result (λ x. (x.0 < length into.new.known.terms) × IsOpen into.new s.now) }
+    ensures goes { IfAnswered result (λ v. Goes into.old into.new) }
+    ensures answer { (texts : Texts) (hidden : Bool) → IfOk result (λ r. after_type texts hidden s.now into.new r ≡ give (Some (base_of base)) (state_of texts hidden s.now into.old)) }
 {
     let r = base_of(into.types_mut(), base)?;
     Ok(Some(r))
@@ -184,9 +184,9 @@ pub(crate) fn type_named(
 ) -> Result<Option<TypeId>, NoMemory>
     requires node { Is u.now is_declaration n }
     requires open { IsOpen into.old s.old }
-    ensures open { IfOk result (λ r. IfSome r (λ x. (x.0 < length into.new.known.terms) × IsOpen into.new s.new)) }
+    ensures open { IfAnswered result (λ x. (x.0 < length into.new.known.terms) × IsOpen into.new s.new) }
     ensures typed { IfOk result (λ r. after_type t.now.texts hidden s.new into.new r ≡ type_named (declaration_at u.now.forest n) (state_of t.now.texts hidden s.old into.old)) }
-    ensures goes { IfOk result (λ r. IfSome r (λ v. Goes into.old into.new)) }
+    ensures goes { IfAnswered result (λ v. Goes into.old into.new) }
 {
     let alloc = s.allocator();
     match u.decl(n) {
@@ -218,8 +218,8 @@ pub(crate) fn type_name(
     requires specs { IsListOf u.now is_specifier specs }
     requires declarator { IfSome declarator (λ n. Is u.now is_declarator n) }
     requires opened { IsOpen into.old s.old }
-    ensures opened { IfOk result (λ r. IfSome r (λ k. IsOpen into.new s.new)) }
-    ensures goes { IfOk result (λ r. IfSome r (λ k. Goes into.old into.new)) }
+    ensures opened { IfAnswered result (λ k. IsOpen into.new s.new) }
+    ensures goes { IfAnswered result (λ k. Goes into.old into.new) }
     ensures known { IfOk result (λ r. IsType into.new.known r) }
     ensures answer { (line : ℕ) → IfOk result (λ r. after_type t.now.texts unevaluated s.new into.new r ≡ type_of_name u.now.forest line specs declarator (state_of t.now.texts unevaluated s.old into.old)) }
 {

@@ -1,5 +1,5 @@
 //! The value that is taken of an operand (C17 6.3.2.1), and conversions (C17 6.3).
-ghost use Rattle.std.specs.Prelude.{◌≡◌, ◌<◌, Some, IfOk, IfSome, OnOk, IsTrue, length};
+ghost use Rattle.std.specs.Prelude.{◌≡◌, ◌<◌, Some, IfOk, OnOk, IsTrue, length};
 ghost use Rattle.pv_types.specs.Known.{tree, tree_in, trees, env};
 ghost use Rattle.pv_types.specs.Formed.{IsKnown};
 ghost use Rattle.pv_types.specs.Ty.{IntTy, PointerTo};
@@ -15,6 +15,7 @@ ghost use Rattle.pv_typed.specs.Tables.{Stored, nodes};
 ghost use Rattle.pv_typed.specs.NodeTrees.{expression_at, IsExpression};
 ghost use Rattle.pv_typed.specs.Known.{AreKnown};
 ghost use Rattle.pv_check.specs.Values.{implied_node, read_at, value_of, conversion_to, promoted_value};
+ghost use Rattle.pv_check.specs.Open.{IfAnswered};
 
 use crate::interning::interned;
 use crate::qualified::qualified;
@@ -95,7 +96,7 @@ fn pointer_to_place(
     requires known { AreKnown into.old }
     requires node { IsExpression into.old n }
     requires target { t.0 < length into.old.known.terms }
-    ensures node { IfOk result (λ r. IfSome r (λ v. IsExpression into.new v)) }
+    ensures node { IfAnswered result (IsExpression into.new) }
     ensures value { IfOk result (λ r. expression_if into.new r ≡ Some (implied_node line (PointerTo (tree into.old.known t.0)) (ArrayPointer (expression_at into.old n)))) }
     ensures kept { OnOk result (Kept into.old into.new) }
 {
@@ -112,7 +113,7 @@ fn pointer_to_place(
 fn read(into: &mut TypedUnit, n: NodeId) -> Result<Option<NodeId>, NoMemory>
     requires known { AreKnown into.old }
     requires node { IsExpression into.old n }
-    ensures node { IfOk result (λ r. IfSome r (λ v. IsExpression into.new v)) }
+    ensures node { IfAnswered result (IsExpression into.new) }
     ensures value { IfOk result (λ r. expression_if into.new r ≡ read_at (env_of into.old) (expression_at into.old n) (type_of (expression_at into.old n))) }
     ensures kept { OnOk result (Kept into.old into.new) }
 {
@@ -139,7 +140,7 @@ fn read(into: &mut TypedUnit, n: NodeId) -> Result<Option<NodeId>, NoMemory>
 pub(crate) fn value(into: &mut TypedUnit, n: NodeId) -> Result<Option<NodeId>, NoMemory>
     requires known { AreKnown into.old }
     requires node { IsExpression into.old n }
-    ensures node { IfOk result (λ r. IfSome r (λ v. IsExpression into.new v)) }
+    ensures node { IfAnswered result (IsExpression into.new) }
     ensures value { IfOk result (λ r. expression_if into.new r ≡ value_of (env_of into.old) (expression_at into.old n)) }
     ensures kept { OnOk result (Kept into.old into.new) }
 {

@@ -4,7 +4,7 @@ use Rattle.pv_types.specs.Known.{Known, tree}
 use Rattle.pv_typed.specs.Tables.{Stored}
 use Rattle.pv_check.specs.declared.specifiers.Specified.{Specified}
 use Rattle.pv_check.specs.Raw.{Raw}
-use Rattle.pv_check.specs.Open.{state_of, IsOpen, Goes}
+use Rattle.pv_check.specs.Open.{state_in, IsOpen, Goes}
 use Rattle.pv_check.specs.State.{After, State}
 use Rattle.pv_check.specs.Specifiers.{Specified as WhatIsSpecified}
 use Rattle.pv_unit.specs.declared.declarators.DeclaredType.{DeclaredType}
@@ -17,7 +17,7 @@ specified_in m x = record { storage = x.storage; t = tree m x.t.0 }
 -- what specifiers say (6.7p1) as an answer, and the state after it
 abbrev pub after_specified : List (List ℕ) → Raw → Stored → Option Specified → Option (After WhatIsSpecified)
 after_specified texts s m None = None
-after_specified texts s m (Some x) = Some (record { value = specified_in m.known x; state = state_of texts false s m })
+after_specified texts s m (Some x) = Some (record { value = specified_in m.known x; state = state_in texts s m })
 
 -- the type of a declarator (6.7.6), with its tree
 abbrev pub type_in : Known → DeclaredType → WholeType
@@ -26,7 +26,7 @@ type_in m x = record { t = tree m x.t.0; unsized = x.without_size }
 -- the type of a declarator (6.7.6) as an answer, and the state after it
 abbrev pub after_declared : List (List ℕ) → Raw → Stored → Option DeclaredType → Option (After WholeType)
 after_declared texts s m None = None
-after_declared texts s m (Some x) = Some (record { value = type_in m.known x; state = state_of texts false s m })
+after_declared texts s m (Some x) = Some (record { value = type_in m.known x; state = state_in texts s m })
 
 -- where a declaration (6.7) has an answer, the scopes are open
 abbrev pub OpenOn : Stored → Raw → Bool → Type 0
@@ -41,4 +41,4 @@ GoesOn a b true = Goes a b
 -- where a declaration (6.7) has an answer, the state
 abbrev pub state_on : List (List ℕ) → Raw → Stored → Bool → Option State
 state_on texts s m false = None
-state_on texts s m true = Some (state_of texts false s m)
+state_on texts s m true = Some (state_in texts s m)

@@ -2,17 +2,13 @@
 use Rattle.std.specs.Prelude.{ℕ, Bool, true, false, List, Option, Some, None}
 use Rattle.pv_typed.specs.Tables.{Stored}
 use Rattle.pv_check.specs.Raw.{Raw}
-use Rattle.pv_check.specs.Open.{state_of}
+use Rattle.pv_check.specs.Open.{state_in}
 use Rattle.pv_unit.specs.declared.entities.Outer.{Outer}
 use Rattle.pv_unit.specs.Redeclarations.{UnitState}
 
--- the texts of the string literals of a unit (6.4.5p6), by their numbers
-abbrev pub Texts : Type 0
-Texts = List (List ℕ)
-
 -- what scopes (6.2.1), tables and the entities of file scope (6.9) stand for
 abbrev pub unit_state : List (List ℕ) → Raw → Stored → Outer → UnitState
-unit_state texts s m o = record { state = state_of texts false s m; entities = o.entities; unsized_typedef = o.unsized_typedef }
+unit_state texts s m o = record { state = state_in texts s m; entities = o.entities; unsized_typedef = o.unsized_typedef }
 
 -- an external declaration (6.9p1) as an answer, with what is known behind it
 abbrev pub unit_if : List (List ℕ) → Raw → Stored → Outer → Bool → Option UnitState

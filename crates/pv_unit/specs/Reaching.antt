@@ -3,7 +3,7 @@ use Rattle.std.specs.Prelude.{ℕ, ◌<◌, Bool, true, false, List, map, length
 use Rattle.pv_typed.specs.Known.{Each}
 use Rattle.pv_typed.specs.Tables.{Stored}
 use Rattle.pv_check.specs.Raw.{Raw}
-use Rattle.pv_check.specs.Open.{state_of}
+use Rattle.pv_check.specs.Open.{state_in}
 use Rattle.pv_check.specs.State.{After}
 use Rattle.pv_unit.specs.declared.blocks.Reached.{Reached}
 use Rattle.pv_unit.specs.Blocks.{Reached as WholeReached}
@@ -14,7 +14,7 @@ reached_of x = record { object = x.object; line = x.line }
 
 -- those that were reached (6.2.4p5), and the state behind them
 abbrev pub reached_in : List (List ℕ) → Raw → Stored → List Reached → After (List WholeReached)
-reached_in texts s m xs = record { value = map reached_of xs; state = state_of texts false s m }
+reached_in texts s m xs = record { value = map reached_of xs; state = state_in texts s m }
 
 -- the same as an answer (6.2.4p5)
 abbrev pub reached_if : List (List ℕ) → Raw → Stored → List Reached → Bool → Option (After (List WholeReached))

@@ -8,7 +8,7 @@ use Rattle.pv_typed.specs.TypedStatement.{TypedStatement}
 use Rattle.pv_typed.specs.Tables.{Stored}
 use Rattle.pv_typed.specs.NodeTrees.{expression_at, statement_at, IsExpression, IsStatement}
 use Rattle.pv_check.specs.Raw.{Raw}
-use Rattle.pv_check.specs.Open.{state_of, IsOpen, Goes}
+use Rattle.pv_check.specs.Open.{state_in, IsOpen, Goes}
 use Rattle.pv_check.specs.State.{After}
 use Rattle.pv_unit.specs.declared.plain.Place.{Place}
 use Rattle.pv_unit.specs.Statements.{Around}
@@ -19,11 +19,11 @@ around_in m w = record { result = tree m w.result.0; breaks = w.breaks; continue
 
 -- a typed expression, and the state after it
 abbrev pub value_in : List (List ℕ) → Raw → Stored → NodeId → After TypedTree
-value_in texts s m n = record { value = expression_at m n; state = state_of texts false s m }
+value_in texts s m n = record { value = expression_at m n; state = state_in texts s m }
 
 -- a typed statement (6.8), and the state after it
 abbrev pub statement_after : List (List ℕ) → Raw → Stored → NodeId → After TypedStatement
-statement_after texts s m n = record { value = statement_at m n; state = state_of texts false s m }
+statement_after texts s m n = record { value = statement_at m n; state = state_in texts s m }
 
 -- a typed statement (6.8) as an answer
 abbrev pub stated_if : List (List ℕ) → Raw → Stored → Option NodeId → Option (After TypedStatement)
@@ -36,7 +36,7 @@ statements_in m ns = map (statement_at m) ns
 
 -- items of a block (6.8.2p1), and the state after them
 abbrev pub items_in : List (List ℕ) → Raw → Stored → List NodeId → After (List TypedStatement)
-items_in texts s m ns = record { value = statements_in m ns; state = state_of texts false s m }
+items_in texts s m ns = record { value = statements_in m ns; state = state_in texts s m }
 
 -- items of a block (6.8.2p1) as an answer
 abbrev pub items_if : List (List ℕ) → Raw → Stored → List NodeId → Bool → Option (After (List TypedStatement))
@@ -56,7 +56,7 @@ optional_in m (Some n) = Some (expression_at m n)
 -- an expression that may be left out (6.8.3p3, 6.8.5.3p2) as an answer
 abbrev pub optional_if : List (List ℕ) → Raw → Stored → Option (Option NodeId) → Option (After (Option TypedTree))
 optional_if texts s m None = None
-optional_if texts s m (Some o) = Some (record { value = optional_in m o; state = state_of texts false s m })
+optional_if texts s m (Some o) = Some (record { value = optional_in m o; state = state_in texts s m })
 
 -- an expression that may be left out (6.8.3p3, 6.8.5.3p2) is in the tables
 abbrev pub IsOptional : Stored → Option NodeId → Type 0

@@ -10,7 +10,7 @@ use Rattle.pv_tree.specs.Tables.{Forest, tree_at, trees_at, statement_at as stat
 use Rattle.pv_typed.specs.Tables.{Stored}
 use Rattle.pv_typed.specs.NodeTrees.{expression_at, statement_at}
 use Rattle.pv_check.specs.Raw.{Raw}
-use Rattle.pv_check.specs.Open.{state_of}
+use Rattle.pv_check.specs.Open.{state_in}
 use Rattle.pv_check.specs.State.{State, After, give}
 use Rattle.pv_typed.specs.Constants.{and_then}
 use Rattle.pv_unit.specs.declared.labels.Label.{Label}
@@ -45,12 +45,12 @@ HasKeys x = x.keys.keys ≡ map key_of x.all.items
 -- a label (6.8.1p1) as an answer, and the state after it
 abbrev pub label_if : List (List ℕ) → Raw → Stored → Option Label → Option (After statements.Label)
 label_if texts s m None = None
-label_if texts s m (Some l) = Some (record { value = label_of l; state = state_of texts false s m })
+label_if texts s m (Some l) = Some (record { value = label_of l; state = state_in texts s m })
 
 -- all labels of a switch (6.8.4.2) as an answer
 abbrev pub labels_if : List (List ℕ) → Raw → Stored → List Label → Bool → Option (After (List statements.Label))
 labels_if texts s m ls false = None
-labels_if texts s m ls true = Some (record { value = labels_of ls; state = state_of texts false s m })
+labels_if texts s m ls true = Some (record { value = labels_of ls; state = state_in texts s m })
 
 -- further labels behind those that a switch has (6.8.4.2p3)
 abbrev pub behind_labels : List statements.Label → Option (After (List statements.Label)) → Option (After (List statements.Label))
@@ -71,7 +71,7 @@ label_behind k all l s = and_then (typed_label k l s) (with_label all)
 
 -- the controlling expression of a switch (6.8.4.2p1)
 abbrev pub switched_in : List (List ℕ) → Raw → Stored → Controlling → After Switched
-switched_in texts s m x = record { value = record { value = expression_at m x.value; kind = x.kind }; state = state_of texts false s m }
+switched_in texts s m x = record { value = record { value = expression_at m x.value; kind = x.kind }; state = state_in texts s m }
 
 -- the controlling expression of a switch (6.8.4.2p1) as an answer
 abbrev pub switched_if : List (List ℕ) → Raw → Stored → Option Controlling → Option (After Switched)
@@ -80,7 +80,7 @@ switched_if texts s m (Some x) = Some (switched_in texts s m x)
 
 -- the items of a switch's block (6.8.2p1), and its labels
 abbrev pub body_in : List (List ℕ) → Raw → Stored → List NodeId → List Label → After Body
-body_in texts s m ns ls = record { value = record { items = statements_in m ns; labels = labels_of ls }; state = state_of texts false s m }
+body_in texts s m ns ls = record { value = record { items = statements_in m ns; labels = labels_of ls }; state = state_in texts s m }
 
 -- the items of a switch's block (6.8.2p1) as an answer
 abbrev pub body_if : List (List ℕ) → Raw → Stored → List NodeId → List Label → Bool → Option (After Body)
@@ -90,7 +90,7 @@ body_if texts s m ns ls true = Some (body_in texts s m ns ls)
 -- a statement under its labels (6.8.1) as an answer, with the labels of the switch
 abbrev pub marked_if : List (List ℕ) → Raw → Stored → List Label → Option NodeId → Option (After Marked)
 marked_if texts s m ls None = None
-marked_if texts s m ls (Some n) = Some (record { value = record { labels = labels_of ls; statement = statement_at m n }; state = state_of texts false s m })
+marked_if texts s m ls (Some n) = Some (record { value = record { labels = labels_of ls; statement = statement_at m n }; state = state_in texts s m })
 
 -- a statement with labels (6.8.1)
 abbrev pub is_labelled : StatementTree → Bool

@@ -1,5 +1,5 @@
 //! Statements added to the tables of a unit (C17 6.8).
-ghost use Rattle.std.specs.Prelude.{◌≡◌, ◌<◌, ◌+◌, ◌++◌, ◌∷◌, [], ℕ, List, false, map, length, IfOk, IfSome, OnOk};
+ghost use Rattle.std.specs.Prelude.{◌≡◌, ◌<◌, ◌+◌, ◌++◌, ◌∷◌, [], false, map, length, IfOk, IfSome, OnOk};
 ghost use Rattle.pv_tree.specs.Tables.{Is, is_declaration, declaration_at};
 ghost use Rattle.pv_typed.specs.Children.{HasKinds, HasParts};
 ghost use Rattle.pv_typed.specs.Formed.{AreObjects, DeclaresIn};
@@ -7,7 +7,7 @@ ghost use Rattle.pv_typed.specs.Nodes.{statement_form};
 ghost use Rattle.pv_typed.specs.Tables.{nodes};
 ghost use Rattle.pv_typed.specs.NodeTrees.{list_at, statement_at, IsStatement};
 ghost use Rattle.pv_typed.specs.TypedStatement.{Declare};
-ghost use Rattle.pv_check.specs.Open.{state_of, IsOpen};
+ghost use Rattle.pv_check.specs.Open.{IsOpen, Texts, state_in, KeepsState};
 ghost use Rattle.pv_check.specs.Scopes.{in_new_scope, behind_scope};
 ghost use Rattle.pv_unit.specs.Reaching.{AreReached, reached_of};
 ghost use Rattle.pv_unit.specs.Stated.{optional_list, statements_in, optional_in, items_if, IsOptional, AreStatements, StatementsOn, Moves, MovesOn, items_in};
@@ -35,7 +35,7 @@ pub(crate) fn add(
     requires objects { AreObjects into.old declared.now }
     ensures there { IfOk result (IsStatement into.new) }
     ensures tree { IfOk result (λ n. statement_at into.new n ≡ statement_form into.old.lists (nodes into.old) line declared.now x) }
-    ensures state { OnOk result ((texts : List (List ℕ)) → state_of texts false s.now into.new ≡ state_of texts false s.now into.old) }
+    ensures state { OnOk result (KeepsState s.now into.old into.new) }
     ensures moves { OnOk result (Moves into.old s.now into.new s.now) }
 {
     let n = into.add_statement(x, line, declared)?;
@@ -47,7 +47,7 @@ pub(crate) fn enter(s: &mut Scopes, into: &TypedUnit) -> Result<(), NoMemory>
     requires { IsOpen into.now s.old }
     ensures opened { OnOk result (IsOpen into.now s.new) }
     ensures deep { OnOk result (length s.new.scopes ≡ length s.old.scopes + 1) }
-    ensures state { OnOk result ((texts : List (List ℕ)) → state_of texts false s.new into.now ≡ in_new_scope (state_of texts false s.old into.now)) }
+    ensures state { OnOk result ((texts : Texts) → state_in texts s.new into.now ≡ in_new_scope (state_in texts s.old into.now)) }
 {
     s.enter()?;
     Ok(())
@@ -59,7 +59,7 @@ pub(crate) fn leave(s: &mut Scopes, into: &TypedUnit)
     requires within { 1 < length s.old.scopes }
     ensures opened { IsOpen into.now s.new }
     ensures deep { length s.new.scopes + 1 ≡ length s.old.scopes }
-    ensures state { (texts : List (List ℕ)) → state_of texts false s.new into.now ≡ behind_scope (state_of texts false s.old into.now) }
+    ensures state { (texts : Texts) → state_in texts s.new into.now ≡ behind_scope (state_in texts s.old into.now) }
 {
     s.leave();
 }
@@ -76,7 +76,7 @@ fn declare_one(
     requires items { AreStatements into.old items.old.items }
     ensures there { OnOk result (AreStatements into.new items.new.items) }
     ensures items { OnOk result (statements_in into.new items.new.items ≡ statements_in into.old items.old.items ++ (Declare x.line x.object ∷ [])) }
-    ensures state { OnOk result ((texts : List (List ℕ)) → state_of texts false s.now into.new ≡ state_of texts false s.now into.old) }
+    ensures state { OnOk result (KeepsState s.now into.old into.new) }
     ensures moves { OnOk result (Moves into.old s.now into.new s.now) }
 {
     let n = add(s, into, TypedStmt::Declare(x.object), x.line, &[])?;
@@ -96,7 +96,7 @@ fn declare(
     requires items { AreStatements into.old items.old.items }
     ensures there { OnOk result (AreStatements into.new items.new.items) }
     ensures items { OnOk result (statements_in into.new items.new.items ≡ statements_in into.old items.old.items ++ reached_declarations (map reached_of all.now)) }
-    ensures state { OnOk result ((texts : List (List ℕ)) → state_of texts false s.now into.new ≡ state_of texts false s.now into.old) }
+    ensures state { OnOk result (KeepsState s.now into.old into.new) }
     ensures moves { OnOk result (Moves into.old s.now into.new s.now) }
 {
     for x in all {
@@ -188,7 +188,7 @@ fn add_items(s: &Scopes, into: &mut TypedUnit, items: &[NodeId]) -> Result<ListI
     requires items { AreStatements into.old items.now }
     ensures list { IfOk result (λ l. HasKinds into.new.rows into.new.lists (length into.new.rows) false l) }
     ensures same { IfOk result (λ l. list_at into.new l ≡ items.now) }
-    ensures state { OnOk result ((texts : List (List ℕ)) → state_of texts false s.now into.new ≡ state_of texts false s.now into.old) }
+    ensures state { OnOk result (KeepsState s.now into.old into.new) }
     ensures moves { OnOk result (Moves into.old s.now into.new s.now) }
 {
     let l = into.add_list(items)?;
@@ -206,7 +206,7 @@ pub(crate) fn add_block(
     requires items { AreStatements into.old items.now }
     ensures there { IfOk result (IsStatement into.new) }
     ensures tree { IfOk result (λ n. statement_at into.new n ≡ block_of line (statements_in into.old items.now)) }
-    ensures state { OnOk result ((texts : List (List ℕ)) → state_of texts false s.now into.new ≡ state_of texts false s.now into.old) }
+    ensures state { OnOk result (KeepsState s.now into.old into.new) }
     ensures moves { OnOk result (Moves into.old s.now into.new s.now) }
 {
     let objects = objects_of(s, into, items)?;
@@ -232,7 +232,7 @@ pub(crate) fn add_round(
     requires body { IsStatement into.old body }
     ensures there { IfOk result (IsStatement into.new) }
     ensures tree { IfOk result (λ n. statement_at into.new n ≡ round_of line (statements_in into.old items.now) (optional_in into.old condition) (optional_in into.old step) (statement_at into.old body)) }
-    ensures state { OnOk result ((texts : List (List ℕ)) → state_of texts false s.now into.new ≡ state_of texts false s.now into.old) }
+    ensures state { OnOk result (KeepsState s.now into.old into.new) }
     ensures moves { OnOk result (Moves into.old s.now into.new s.now) }
 {
     let objects = objects_of(s, into, items)?;

@@ -1,5 +1,5 @@
 //! Declarations in blocks (C17 6.7, 6.2.4): automatic and static objects.
-ghost use Rattle.std.specs.Prelude.{◌≡◌, ◌<◌, ◌++◌, [], ℕ, List, is_some, false, map, IfOk, IfSome, OnOk, None, length};
+ghost use Rattle.std.specs.Prelude.{◌≡◌, ◌<◌, ◌++◌, [], ℕ, is_some, false, map, IfOk, OnOk, None, length};
 ghost use Rattle.pv_types.specs.Known.{tree};
 ghost use Rattle.pv_tree.specs.Syntax.{OfInitializer, Present};
 ghost use Rattle.pv_tree.specs.Tables.{Forest, Is, trees_at, declaration_at, initializer_at, optional_at, is_declaration, is_declarator, is_initializer, is_specifier, IsListOf, IsOptionalOf};
@@ -7,7 +7,7 @@ ghost use Rattle.pv_types.specs.Layouts.{is_complete_in};
 ghost use Rattle.pv_typed.specs.Tables.{Stored, whole_unit};
 ghost use Rattle.pv_typed.specs.TypedUnits.{object_at};
 ghost use Rattle.pv_check.specs.State.{env};
-ghost use Rattle.pv_check.specs.Open.{state_of, IsOpen, Goes};
+ghost use Rattle.pv_check.specs.Open.{IsOpen, Goes, Texts, state_in, IfAnswered};
 ghost use Rattle.pv_unit.specs.Blocks.{is_present, block_storage, with_initializer, block_object, block_declarators, block_alone, block_declaration, reached_object};
 ghost use Rattle.pv_unit.specs.BlockParts.{block_declared};
 ghost use Rattle.pv_unit.specs.Declarations.{only_tag};
@@ -48,7 +48,7 @@ fn block_storage(storage: Storage) -> Option<bool>
 fn is_whole(s: &Scopes, into: &TypedUnit, o: u32) -> bool
     requires opened { IsOpen into.now s.now }
     requires object { o < length into.now.objects }
-    ensures { (texts : List (List ℕ)) → result ≡ is_complete_in (env (state_of texts false s.now into.now)) (object_at (whole_unit into.now) o).t }
+    ensures { (texts : Texts) → result ≡ is_complete_in (env (state_in texts s.now into.now)) (object_at (whole_unit into.now) o).t }
 {
     into.types().is_complete(into.object(o).t)
 }
@@ -68,7 +68,7 @@ fn with_given(
     requires object { o < length into.old.objects }
     ensures opened { IfOk result (OpenOn into.new s.new) }
     ensures goes { IfOk result (GoesOn into.old into.new) }
-    ensures answer { IfOk result (λ b. state_on t.now.texts s.new into.new b ≡ with_initializer lasting o (Present (OfInitializer (initializer_at u.now.forest i))) (state_of t.now.texts false s.old into.old)) }
+    ensures answer { IfOk result (λ b. state_on t.now.texts s.new into.new b ≡ with_initializer lasting o (Present (OfInitializer (initializer_at u.now.forest i))) (state_in t.now.texts s.old into.old)) }
 {
     let has = given(u, t, s, into, lasting, o, i)?;
     if !has {
@@ -92,7 +92,7 @@ fn with_initializer(
     requires object { o < length into.old.objects }
     ensures opened { IfOk result (OpenOn into.new s.new) }
     ensures goes { IfOk result (GoesOn into.old into.new) }
-    ensures answer { IfOk result (λ b. state_on t.now.texts s.new into.new b ≡ with_initializer lasting o (optional_at u.now.forest init) (state_of t.now.texts false s.old into.old)) }
+    ensures answer { IfOk result (λ b. state_on t.now.texts s.new into.new b ≡ with_initializer lasting o (optional_at u.now.forest init) (state_in t.now.texts s.old into.old)) }
 {
     match init {
         None => Ok(is_whole(s, into, o)),
@@ -118,10 +118,10 @@ fn block_object(
     requires init { IsOptionalOf u.now is_initializer init }
     requires opened { IsOpen into.old s.old }
     requires known { made.0 < length into.old.known.terms }
-    ensures opened { IfOk result (λ r. IfSome r (λ o. IsOpen into.new s.new)) }
-    ensures goes { IfOk result (λ r. IfSome r (λ o. Goes into.old into.new)) }
-    ensures number { IfOk result (λ r. IfSome r (λ o. (o ≡ length (whole_unit into.old).objects) × (o < length into.new.objects))) }
-    ensures answer { IfOk result (λ r. state_on t.now.texts s.new into.new (is_some r) ≡ block_object lasting (tree into.old.known made.0) (name, line) (optional_at u.now.forest init) (state_of t.now.texts false s.old into.old)) }
+    ensures opened { IfAnswered result (λ o. IsOpen into.new s.new) }
+    ensures goes { IfAnswered result (λ o. Goes into.old into.new) }
+    ensures number { IfAnswered result (λ o. (o ≡ length (whole_unit into.old).objects) × (o < length into.new.objects)) }
+    ensures answer { IfOk result (λ r. state_on t.now.texts s.new into.new (is_some r) ≡ block_object lasting (tree into.old.known made.0) (name, line) (optional_at u.now.forest init) (state_in t.now.texts s.old into.old)) }
 {
     if found(s, into, name).is_some() {
         return Ok(None);
@@ -242,7 +242,7 @@ fn block_declarators(
     ensures opened { IfOk result (OpenOn into.new s.new) }
     ensures goes { IfOk result (GoesOn into.old into.new) }
     ensures there { IfOk result (ReachedOn into.new all.new.items) }
-    ensures answer { IfOk result (λ b. reached_if t.now.texts s.new into.new all.new.items b ≡ block_declarators (trees_at u.now.forest list) lasting (tree into.old.known base.0) (state_of t.now.texts false s.old into.old)) }
+    ensures answer { IfOk result (λ b. reached_if t.now.texts s.new into.new all.new.items b ≡ block_declarators (trees_at u.now.forest list) lasting (tree into.old.known base.0) (state_in t.now.texts s.old into.old)) }
 {
     let nodes = u.list(list);
     for n in nodes {
@@ -265,7 +265,7 @@ fn specifiers_alone(
     requires opened { IsOpen into.old s.old }
     ensures opened { IfOk result (OpenOn into.new s.new) }
     ensures goes { IfOk result (GoesOn into.old into.new) }
-    ensures answer { IfOk result (λ b. reached_if t.now.texts s.new into.new [] b ≡ block_alone None (trees_at u.now.forest specs) (state_of t.now.texts false s.old into.old)) }
+    ensures answer { IfOk result (λ b. reached_if t.now.texts s.new into.new [] b ≡ block_alone None (trees_at u.now.forest specs) (state_in t.now.texts s.old into.old)) }
 {
     let before = bound(s, into);
     let Some(x) = specified(u, t, s, into, specs)? else {
@@ -289,7 +289,7 @@ fn block_alone(
     requires opened { IsOpen into.old s.old }
     ensures opened { IfOk result (OpenOn into.new s.new) }
     ensures goes { IfOk result (GoesOn into.old into.new) }
-    ensures answer { IfOk result (λ b. reached_if t.now.texts s.new into.new [] b ≡ block_alone (only_tag (trees_at u.now.forest specs)) (trees_at u.now.forest specs) (state_of t.now.texts false s.old into.old)) }
+    ensures answer { IfOk result (λ b. reached_if t.now.texts s.new into.new [] b ≡ block_alone (only_tag (trees_at u.now.forest specs)) (trees_at u.now.forest specs) (state_in t.now.texts s.old into.old)) }
 {
     match only_tag(u, specs) {
         Some((word, name)) => {
@@ -320,7 +320,7 @@ fn block_declared(
     ensures opened { IfOk result (OpenOn into.new s.new) }
     ensures goes { IfOk result (GoesOn into.old into.new) }
     ensures there { IfOk result (ReachedOn into.new all.new.items) }
-    ensures answer { IfOk result (λ b. reached_if t.now.texts s.new into.new all.new.items b ≡ block_declared (trees_at u.now.forest specs) (trees_at u.now.forest declared) (state_of t.now.texts false s.old into.old)) }
+    ensures answer { IfOk result (λ b. reached_if t.now.texts s.new into.new all.new.items b ≡ block_declared (trees_at u.now.forest specs) (trees_at u.now.forest declared) (state_in t.now.texts s.old into.old)) }
 {
     let Some(x) = specified(u, t, s, into, specs)? else {
         return Ok(false);
@@ -347,7 +347,7 @@ pub(crate) fn block_declaration(
     ensures opened { IfOk result (OpenOn into.new s.new) }
     ensures goes { IfOk result (GoesOn into.old into.new) }
     ensures there { IfOk result (ReachedOn into.new all.new.items) }
-    ensures answer { IfOk result (λ b. reached_if t.now.texts s.new into.new all.new.items b ≡ block_declaration (declaration_at u.now.forest n) (state_of t.now.texts false s.old into.old)) }
+    ensures answer { IfOk result (λ b. reached_if t.now.texts s.new into.new all.new.items b ≡ block_declaration (declaration_at u.now.forest n) (state_in t.now.texts s.old into.old)) }
 {
     match u.decl(n) {
         Decl::Declaration { specs, declared } => {

@@ -9,7 +9,7 @@ ghost use Rattle.pv_typed.specs.Formed.{Grown};
 ghost use Rattle.pv_typed.specs.Known.{AreKnown};
 ghost use Rattle.pv_typed.specs.Mains.{main_of};
 ghost use Rattle.pv_typed.specs.Tables.{whole_unit};
-ghost use Rattle.pv_check.specs.Open.{state_of, IsOpen};
+ghost use Rattle.pv_check.specs.Open.{IsOpen, Texts};
 ghost use Rattle.pv_check.specs.Raw.{Raw, used_of};
 ghost use Rattle.pv_unit.specs.Checking.{externals_in, IsStop, IsResolved, IsLack, IsCause, IsNamed};
 ghost use Rattle.pv_unit.specs.Definitions.{may_end};
@@ -61,7 +61,7 @@ impl From<NoMemory> for CheckError {
 fn is_left_open(s: &Scopes, into: &TypedUnit, outer: &Outer, count: u32) -> bool
     requires opened { IsOpen into.now s.now }
     requires entities { AreThere into.now outer.now.entities }
-    ensures { (texts : List (List ℕ)) → result ≡ (nat_lt 0 count && not (may_end (unit_state texts s.now into.now outer.now))) }
+    ensures { (texts : Texts) → result ≡ (nat_lt 0 count && not (may_end (unit_state texts s.now into.now outer.now))) }
 {
     count > 0 && !may_end(into, outer)
 }
@@ -142,7 +142,7 @@ fn with_placed(s: &Scopes, into: &mut TypedUnit) -> Result<(), CheckError>
 
 /// Notes the static objects, and the functions that are pointed to.
 fn with_both(s: &Scopes, into: &mut TypedUnit, outer: &Outer) -> Result<(), CheckError>
-    ensures whole { (texts : List (List ℕ)) → OnOk result (whole_unit into.new ≡ finished_unit (unit_state texts s.now into.old outer.now)) }
+    ensures whole { (texts : Texts) → OnOk result (whole_unit into.new ≡ finished_unit (unit_state texts s.now into.old outer.now)) }
     ensures types { OnOk result (into.new.known ≡ into.old.known) }
     ensures grown { OnOk result (Grown into.old into.new) }
     ensures refused { IfErr result (λ e. e ≡ OutOfMemory) }

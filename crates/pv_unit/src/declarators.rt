@@ -1,11 +1,11 @@
 //! Specifiers and declarators of declarations (C17 6.7): the storage class and the type, the name and its type.
-ghost use Rattle.std.specs.Prelude.{◌≡◌, ◌<◌, ◌||◌, nat_lt, ℕ, Bool, List, IfOk, IfSome, OnOk, Some, None, false, length};
+ghost use Rattle.std.specs.Prelude.{◌≡◌, ◌<◌, ◌||◌, nat_lt, Bool, IfOk, OnOk, Some, None, false, length};
 ghost use Rattle.pv_tree.specs.Tables.{Is, tree_at, specifier_at, declarator_at, trees_at, is_declarator, is_specifier, IsListOf};
 ghost use Rattle.pv_tree.specs.Syntax.{Then, NoTrees};
 ghost use Rattle.pv_types.specs.Known.{Known, tree};
 ghost use Rattle.pv_check.specs.Stepping.{step_in, steps_in};
 ghost use Rattle.pv_check.specs.Raw.{raw_innermost};
-ghost use Rattle.pv_check.specs.Open.{state_of, IsOpen, Goes};
+ghost use Rattle.pv_check.specs.Open.{IsOpen, Goes, Texts, state_in, IfAnswered};
 ghost use Rattle.pv_check.specs.Tags.{tag_alone};
 ghost use Rattle.pv_check.specs.Scopes.{innermost_scope};
 ghost use Rattle.pv_unit.specs.Declarations.{is_unsized, is_listed, has_list, only_tag, specified_by, type_declared, bound_in};
@@ -62,10 +62,10 @@ pub(crate) fn specified(
 ) -> Result<Option<Specified>, NoMemory>
     requires list { IsListOf u.now is_specifier list }
     requires opened { IsOpen into.old s.old }
-    ensures opened { IfOk result (λ r. IfSome r (λ x. IsOpen into.new s.new)) }
-    ensures goes { IfOk result (λ r. IfSome r (λ x. Goes into.old into.new)) }
-    ensures known { IfOk result (λ r. IfSome r (λ x. x.t.0 < length into.new.known.terms)) }
-    ensures answer { IfOk result (λ r. after_specified t.now.texts s.new into.new r ≡ specified_by (trees_at u.now.forest list) (state_of t.now.texts false s.old into.old)) }
+    ensures opened { IfAnswered result (λ x. IsOpen into.new s.new) }
+    ensures goes { IfAnswered result (λ x. Goes into.old into.new) }
+    ensures known { IfAnswered result (λ x. x.t.0 < length into.new.known.terms) }
+    ensures answer { IfOk result (λ r. after_specified t.now.texts s.new into.new r ≡ specified_by (trees_at u.now.forest list) (state_in t.now.texts s.old into.old)) }
 {
     let Some(seen) = read_specifiers(u, t, s, into, list, false)? else {
         return Ok(None);
@@ -87,10 +87,10 @@ pub(crate) fn type_declared(
     requires node { Is u.now is_declarator d }
     requires opened { IsOpen into.old s.old }
     requires base { base.0 < length into.old.known.terms }
-    ensures opened { IfOk result (λ r. IfSome r (λ x. IsOpen into.new s.new)) }
-    ensures goes { IfOk result (λ r. IfSome r (λ x. Goes into.old into.new)) }
-    ensures known { IfOk result (λ r. IfSome r (λ x. x.t.0 < length into.new.known.terms)) }
-    ensures answer { IfOk result (λ r. after_declared t.now.texts s.new into.new r ≡ type_declared unsized_may_be (tree into.old.known base.0) (declarator_at u.now.forest d) (state_of t.now.texts false s.old into.old)) }
+    ensures opened { IfAnswered result (λ x. IsOpen into.new s.new) }
+    ensures goes { IfAnswered result (λ x. Goes into.old into.new) }
+    ensures known { IfAnswered result (λ x. x.t.0 < length into.new.known.terms) }
+    ensures answer { IfOk result (λ r. after_declared t.now.texts s.new into.new r ≡ type_declared unsized_may_be (tree into.old.known base.0) (declarator_at u.now.forest d) (state_in t.now.texts s.old into.old)) }
 {
     let Some(steps) = steps_of(s.allocator(), u, t, s, into, d, false)? else {
         return Ok(None);
@@ -197,7 +197,7 @@ fn composite_alone(
     requires opened { IsOpen into.old s.old }
     ensures opened { OnOk result (IsOpen into.new s.new) }
     ensures goes { OnOk result (Goes into.old into.new) }
-    ensures answer { IfOk result (λ b. (texts : List (List ℕ)) → state_on texts s.new into.new b ≡ composite_alone union name (state_of texts false s.old into.old)) }
+    ensures answer { IfOk result (λ b. (texts : Texts) → state_on texts s.new into.new b ≡ composite_alone union name (state_in texts s.old into.old)) }
 {
     let found = s.inner_tag(name);
     let r = composite_named(s, into, union, name, found)?;
@@ -214,7 +214,7 @@ pub(crate) fn tag_alone(
     requires opened { IsOpen into.old s.old }
     ensures opened { OnOk result (IsOpen into.new s.new) }
     ensures goes { OnOk result (Goes into.old into.new) }
-    ensures answer { IfOk result (λ b. (texts : List (List ℕ)) → state_on texts s.new into.new b ≡ tag_alone word name (state_of texts false s.old into.old)) }
+    ensures answer { IfOk result (λ b. (texts : Texts) → state_on texts s.new into.new b ≡ tag_alone word name (state_in texts s.old into.old)) }
 {
     match word {
         Word::Struct => composite_alone(s, into, false, name),
@@ -228,7 +228,7 @@ pub(crate) fn tag_alone(
 pub(crate) fn tags_alone(u: &Unit, s: &Scopes, into: &TypedUnit, list: ListId, before: u64) -> bool
     requires list { IsListOf u.now is_specifier list }
     requires opened { IsOpen into.now s.now }
-    ensures { (texts : List (List ℕ)) → result ≡ (nat_lt before (bound_in (innermost_scope (state_of texts false s.now into.now).scopes)) || has_list (trees_at u.now.forest list)) }
+    ensures { (texts : Texts) → result ≡ (nat_lt before (bound_in (innermost_scope (state_in texts s.now into.now).scopes)) || has_list (trees_at u.now.forest list)) }
 {
     before < s.bound() || has_list(u, list)
 }
@@ -236,7 +236,7 @@ pub(crate) fn tags_alone(u: &Unit, s: &Scopes, into: &TypedUnit, list: ListId, b
 /// How many names and tags the innermost scope has.
 pub(crate) fn bound(s: &Scopes, into: &TypedUnit) -> u64
     requires { IsOpen into.now s.now }
-    ensures { (texts : List (List ℕ)) → result ≡ bound_in (innermost_scope (state_of texts false s.now into.now).scopes) }
+    ensures { (texts : Texts) → result ≡ bound_in (innermost_scope (state_in texts s.now into.now).scopes) }
 {
     s.bound()
 }

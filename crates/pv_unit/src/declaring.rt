@@ -1,11 +1,11 @@
 //! What a declarator at file scope declares (C17 6.7, 6.9.2): a type, an object or a function.
-ghost use Rattle.std.specs.Prelude.{◌≡◌, ◌<◌, ◌&&◌, ◌||◌, not, ℕ, List, IfOk, IfSome, OnOk, Some, None, length, false, true};
+ghost use Rattle.std.specs.Prelude.{◌≡◌, ◌<◌, ◌&&◌, ◌||◌, not, IfOk, IfSome, OnOk, Some, None, length, false, true};
 ghost use Rattle.pv_types.specs.Known.{tree};
 ghost use Rattle.pv_types.specs.Compatible.{are_compatible};
 ghost use Rattle.pv_tree.specs.Tables.{optional_at, is_initializer, initializer_at, Is, HasOptional};
 ghost use Rattle.pv_typed.specs.Tables.{whole_unit};
 ghost use Rattle.pv_check.specs.Raw.{raw_innermost, meaning_if};
-ghost use Rattle.pv_check.specs.Open.{IsOpen, Goes, EntryKnown};
+ghost use Rattle.pv_check.specs.Open.{IsOpen, Goes, EntryKnown, Texts, IfAnswered};
 ghost use Rattle.pv_typed.specs.TypedTree.{is_function};
 ghost use Rattle.pv_check.specs.Scopes.{find};
 ghost use Rattle.pv_typed.specs.Mains.{named_main};
@@ -18,7 +18,7 @@ ghost use Rattle.pv_unit.specs.RuleParts.{is_typedef};
 ghost use Rattle.pv_unit.specs.DeclaredIn.{OpenOn, GoesOn};
 ghost use Rattle.pv_unit.specs.declared.entities.Outer.{Outer};
 ghost use Rattle.pv_unit.specs.There.{AreThere};
-ghost use Rattle.pv_unit.specs.Outside.{unit_state, unit_if, number_if, Texts};
+ghost use Rattle.pv_unit.specs.Outside.{unit_state, unit_if, number_if};
 
 use crate::declarators::DeclaredType;
 use crate::entities::Outer;
@@ -49,7 +49,7 @@ fn object_more(
     ensures goes { OnOk result (Goes into.old into.new) }
     ensures number { IfOk result (λ o. o < length into.new.objects) }
     ensures entities { OnOk result (AreThere into.new outer.new.entities) }
-    ensures answer { IfOk result (λ o. (texts : List (List ℕ)) → (o, unit_state texts s.new into.new outer.new) ≡ with_new_object name line (tree into.old.known t.0) (unit_state texts s.old into.old outer.old)) }
+    ensures answer { IfOk result (λ o. (texts : Texts) → (o, unit_state texts s.new into.new outer.new) ≡ with_new_object name line (tree into.old.known t.0) (unit_state texts s.old into.old outer.old)) }
 {
     let o = new_object(s, into, name, line, t, true)?;
     outer.entities.add(name, false, o)?;
@@ -73,7 +73,7 @@ fn function_more(
     ensures goes { OnOk result (Goes into.old into.new) }
     ensures number { IfOk result (λ f. f < length into.new.functions) }
     ensures entities { OnOk result (AreThere into.new outer.new.entities) }
-    ensures answer { IfOk result (λ f. (texts : List (List ℕ)) → (f, unit_state texts s.new into.new outer.new) ≡ with_new_function name line (tree into.old.known t.0) (unit_state texts s.old into.old outer.old)) }
+    ensures answer { IfOk result (λ f. (texts : Texts) → (f, unit_state texts s.new into.new outer.new) ≡ with_new_function name line (tree into.old.known t.0) (unit_state texts s.old into.old outer.old)) }
 {
     let f = new_function(s, into, name, line, t)?;
     outer.entities.add(name, true, f)?;
@@ -97,9 +97,9 @@ fn object_again(
     requires entities { AreThere into.old outer.old.entities }
     ensures opened { OnOk result (IsOpen into.new s.new) }
     ensures goes { OnOk result (Goes into.old into.new) }
-    ensures number { IfOk result (λ r. IfSome r (λ o. o < length into.new.objects)) }
+    ensures number { IfAnswered result (λ o. o < length into.new.objects) }
     ensures entities { OnOk result (AreThere into.new outer.new.entities) }
-    ensures answer { IfOk result (λ r. (texts : List (List ℕ)) → number_if texts s.new into.new outer.new r ≡ object_again (meaning_if into.old.known before) name line (tree into.old.known t.0) (unit_state texts s.old into.old outer.old)) }
+    ensures answer { IfOk result (λ r. (texts : Texts) → number_if texts s.new into.new outer.new r ≡ object_again (meaning_if into.old.known before) name line (tree into.old.known t.0) (unit_state texts s.old into.old outer.old)) }
 {
     match before {
         None => {
@@ -131,7 +131,7 @@ fn function_again(
     requires entities { AreThere into.old outer.old.entities }
     ensures opened { OnOk result (IsOpen into.new s.new) }
     ensures goes { OnOk result (Goes into.old into.new) }
-    ensures number { IfOk result (λ r. IfSome r (λ f. f < length into.new.functions)) }
+    ensures number { IfAnswered result (λ f. f < length into.new.functions) }
     ensures entities { OnOk result (AreThere into.new outer.new.entities) }
     ensures answer { IfOk result (λ r. (texts : Texts) → number_if texts s.new into.new outer.new r ≡ function_again (meaning_if into.old.known before) name line (tree into.old.known t.0) (unit_state texts s.old into.old outer.old)) }
 {
@@ -162,9 +162,9 @@ pub(crate) fn object_declared(
     requires entities { AreThere into.old outer.old.entities }
     ensures opened { OnOk result (IsOpen into.new s.new) }
     ensures goes { OnOk result (Goes into.old into.new) }
-    ensures number { IfOk result (λ r. IfSome r (λ o. o < length into.new.objects)) }
+    ensures number { IfAnswered result (λ o. o < length into.new.objects) }
     ensures entities { OnOk result (AreThere into.new outer.new.entities) }
-    ensures answer { IfOk result (λ r. (texts : List (List ℕ)) → number_if texts s.new into.new outer.new r ≡ object_declared name line (tree into.old.known t.0) (unit_state texts s.old into.old outer.old)) }
+    ensures answer { IfOk result (λ r. (texts : Texts) → number_if texts s.new into.new outer.new r ≡ object_declared name line (tree into.old.known t.0) (unit_state texts s.old into.old outer.old)) }
 {
     if is_main(into, name) {
         return Ok(None);
@@ -188,9 +188,9 @@ fn function_found(
     requires entities { AreThere into.old outer.old.entities }
     ensures opened { OnOk result (IsOpen into.new s.new) }
     ensures goes { OnOk result (Goes into.old into.new) }
-    ensures number { IfOk result (λ r. IfSome r (λ f. f < length into.new.functions)) }
+    ensures number { IfAnswered result (λ f. f < length into.new.functions) }
     ensures entities { OnOk result (AreThere into.new outer.new.entities) }
-    ensures answer { IfOk result (λ r. (texts : List (List ℕ)) → number_if texts s.new into.new outer.new r ≡ function_found name line (tree into.old.known t.0) (unit_state texts s.old into.old outer.old)) }
+    ensures answer { IfOk result (λ r. (texts : Texts) → number_if texts s.new into.new outer.new r ≡ function_found name line (tree into.old.known t.0) (unit_state texts s.old into.old outer.old)) }
 {
     let before = found(s, into, name);
     let r = function_again(before, s, into, outer, name, line, t)?;
@@ -211,9 +211,9 @@ pub(crate) fn function_declared(
     requires entities { AreThere into.old outer.old.entities }
     ensures opened { OnOk result (IsOpen into.new s.new) }
     ensures goes { OnOk result (Goes into.old into.new) }
-    ensures number { IfOk result (λ r. IfSome r (λ f. f < length into.new.functions)) }
+    ensures number { IfAnswered result (λ f. f < length into.new.functions) }
     ensures entities { OnOk result (AreThere into.new outer.new.entities) }
-    ensures answer { IfOk result (λ r. (texts : List (List ℕ)) → number_if texts s.new into.new outer.new r ≡ function_declared name line (tree into.old.known t.0) (unit_state texts s.old into.old outer.old)) }
+    ensures answer { IfOk result (λ r. (texts : Texts) → number_if texts s.new into.new outer.new r ≡ function_declared name line (tree into.old.known t.0) (unit_state texts s.old into.old outer.old)) }
 {
     let may = may_have(s, into, name, t)?;
     if !may {
@@ -236,7 +236,7 @@ fn typedef_again(
     requires found { before ≡ find (raw_innermost s.old.scopes).names name }
     requires there { IfSome before (EntryKnown into.now) }
     ensures opened { OnOk result (IsOpen into.now s.new) }
-    ensures answer { IfOk result (λ b. (texts : List (List ℕ)) (o : Outer) → unit_if texts s.new into.now o b ≡ typedef_again (meaning_if into.now.known before) name (tree into.now.known t.0) (unit_state texts s.old into.now o)) }
+    ensures answer { IfOk result (λ b. (texts : Texts) (o : Outer) → unit_if texts s.new into.now o b ≡ typedef_again (meaning_if into.now.known before) name (tree into.now.known t.0) (unit_state texts s.old into.now o)) }
 {
     match before {
         None => {
@@ -272,7 +272,7 @@ fn typedef_found(s: &mut Scopes, into: &TypedUnit, name: u32, t: TypeId) -> Resu
     requires opened { IsOpen into.now s.old }
     requires known { t.0 < length into.now.known.terms }
     ensures opened { OnOk result (IsOpen into.now s.new) }
-    ensures answer { IfOk result (λ b. (texts : List (List ℕ)) (o : Outer) → unit_if texts s.new into.now o b ≡ typedef_found name (tree into.now.known t.0) (unit_state texts s.old into.now o)) }
+    ensures answer { IfOk result (λ b. (texts : Texts) (o : Outer) → unit_if texts s.new into.now o b ≡ typedef_found name (tree into.now.known t.0) (unit_state texts s.old into.now o)) }
 {
     let before = found(s, into, name);
     let b = typedef_again(before, s, into, name, t)?;
@@ -300,7 +300,7 @@ pub(crate) fn typedef_declared(
     ensures opened { OnOk result (IsOpen into.new s.new) }
     ensures goes { OnOk result (Goes into.old into.new) }
     ensures entities { OnOk result (AreThere into.new outer.new.entities) }
-    ensures answer { IfOk result (λ b. (texts : List (List ℕ)) → unit_if texts s.new into.new outer.new b ≡ typedef_declared name (tree into.old.known d.t.0) d.without_size (unit_state texts s.old into.old outer.old)) }
+    ensures answer { IfOk result (λ b. (texts : Texts) → unit_if texts s.new into.new outer.new b ≡ typedef_declared name (tree into.old.known d.t.0) d.without_size (unit_state texts s.old into.old outer.old)) }
 {
     let may = may_be_typedef(s, into, name, d.t)?;
     if !may {
@@ -348,7 +348,7 @@ fn plain_object(
     ensures opened { OnOk result (IsOpen into.new s.new) }
     ensures goes { OnOk result (Goes into.old into.new) }
     ensures entities { OnOk result (AreThere into.new outer.new.entities) }
-    ensures answer { IfOk result (λ b. (texts : List (List ℕ)) → unit_if texts s.new into.new outer.new b ≡ plain_object storage (tree into.old.known d.t.0) (name, line) d.without_size (unit_state texts s.old into.old outer.old)) }
+    ensures answer { IfOk result (λ b. (texts : Texts) → unit_if texts s.new into.new outer.new b ≡ plain_object storage (tree into.old.known d.t.0) (name, line) d.without_size (unit_state texts s.old into.old outer.old)) }
 {
     let Some(o) = object_declared(s, into, outer, name, line, d.t)? else {
         return Ok(false);
@@ -375,7 +375,7 @@ fn plain_function(
     ensures opened { OnOk result (IsOpen into.new s.new) }
     ensures goes { OnOk result (Goes into.old into.new) }
     ensures entities { OnOk result (AreThere into.new outer.new.entities) }
-    ensures answer { IfOk result (λ b. (texts : List (List ℕ)) → unit_if texts s.new into.new outer.new b ≡ plain_function (tree into.old.known d.t.0) (name, line) d.without_size (unit_state texts s.old into.old outer.old)) }
+    ensures answer { IfOk result (λ b. (texts : Texts) → unit_if texts s.new into.new outer.new b ≡ plain_function (tree into.old.known d.t.0) (name, line) d.without_size (unit_state texts s.old into.old outer.old)) }
 {
     let Some(f) = function_declared(s, into, outer, name, line, d.t)? else {
         return Ok(false);
@@ -400,7 +400,7 @@ pub(crate) fn plain_entity(
     ensures opened { OnOk result (IsOpen into.new s.new) }
     ensures goes { OnOk result (Goes into.old into.new) }
     ensures entities { OnOk result (AreThere into.new outer.new.entities) }
-    ensures answer { IfOk result (λ b. (texts : List (List ℕ)) → unit_if texts s.new into.new outer.new b ≡ plain_entity storage (tree into.old.known d.t.0) (name, line) d.without_size (unit_state texts s.old into.old outer.old)) }
+    ensures answer { IfOk result (λ b. (texts : Texts) → unit_if texts s.new into.new outer.new b ≡ plain_entity storage (tree into.old.known d.t.0) (name, line) d.without_size (unit_state texts s.old into.old outer.old)) }
 {
     if is_function(into.types(), d.t) {
         plain_function(s, into, outer, name, line, d)

@@ -1,9 +1,9 @@
 //! What breaks a constraint of a unit's last external declaration (C17 6.7.6.2p1, 6.9.2p3).
-ghost use Rattle.std.specs.Prelude.{◌≡◌, ◌<◌, ◌&&◌, ◌||◌, not, false, ℕ, List, length};
+ghost use Rattle.std.specs.Prelude.{◌≡◌, ◌<◌, ◌&&◌, ◌||◌, not, false, length};
 ghost use Rattle.pv_types.specs.Known.{tree, env};
 ghost use Rattle.pv_types.specs.Layouts.{is_complete_in};
 ghost use Rattle.pv_typed.specs.Known.{AreKnown};
-ghost use Rattle.pv_check.specs.Open.{state_of};
+ghost use Rattle.pv_check.specs.Open.{Texts, state_in};
 ghost use Rattle.pv_check.specs.Raw.{Raw};
 ghost use Rattle.pv_unit.specs.Definitions.{is_sized, entity_type, is_finished, may_end};
 ghost use Rattle.pv_unit.specs.HeadParts.{are_finished};
@@ -42,7 +42,7 @@ fn entity_type(into: &TypedUnit, e: Entity) -> TypeId
     requires known { AreKnown into.now }
     requires there { IsThere into.now (entity_of e) }
     ensures known { result.0 < length into.now.known.terms }
-    ensures tree { (texts : List (List ℕ)) (s : Raw) → tree into.now.known result.0 ≡ entity_type (state_of texts false s into.now) (entity_of e) }
+    ensures tree { (texts : Texts) (s : Raw) → tree into.now.known result.0 ≡ entity_type (state_in texts s into.now) (entity_of e) }
 {
     if e.function {
         into.function(e.number).t
@@ -77,7 +77,7 @@ fn is_complete_there(types: &Types, e: Entity, t: TypeId) -> bool
 fn is_finished(into: &TypedUnit, e: Entity) -> bool
     requires known { AreKnown into.now }
     requires there { IsThere into.now (entity_of e) }
-    ensures { (texts : List (List ℕ)) (s : Raw) → result ≡ is_finished (state_of texts false s into.now) (entity_of e) }
+    ensures { (texts : Texts) (s : Raw) → result ≡ is_finished (state_in texts s into.now) (entity_of e) }
 {
     let t = entity_type(into, e);
     let sized = is_sized_there(into.types(), e, t);
@@ -89,7 +89,7 @@ fn is_finished(into: &TypedUnit, e: Entity) -> bool
 fn are_finished(into: &TypedUnit, entities: &Entities) -> bool
     requires known { AreKnown into.now }
     requires there { AreThere into.now entities.now }
-    ensures { (texts : List (List ℕ)) (s : Raw) → result ≡ are_finished (state_of texts false s into.now) entities.now }
+    ensures { (texts : Texts) (s : Raw) → result ≡ are_finished (state_in texts s into.now) entities.now }
 {
     for i in 0..entities.len() {
         if !is_finished(into, entities.at(i)) {
@@ -103,7 +103,7 @@ fn are_finished(into: &TypedUnit, entities: &Entities) -> bool
 pub(crate) fn may_end(into: &TypedUnit, outer: &Outer) -> bool
     requires known { AreKnown into.now }
     requires there { AreThere into.now outer.now.entities }
-    ensures { (texts : List (List ℕ)) (s : Raw) → result ≡ may_end (unit_state texts s into.now outer.now) }
+    ensures { (texts : Texts) (s : Raw) → result ≡ may_end (unit_state texts s into.now outer.now) }
 {
     let finished = are_finished(into, &outer.entities);
     both(!outer.unsized_typedef, finished)

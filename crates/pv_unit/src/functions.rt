@@ -1,5 +1,5 @@
 //! Function definitions and external declarations (C17 6.9, 6.9.1).
-ghost use Rattle.std.specs.Prelude.{◌≡◌, ◌<◌, ◌+◌, ◌++◌, ◌∷◌, [], ℕ, List, false, length, IfOk, IfSome, OnOk, Some};
+ghost use Rattle.std.specs.Prelude.{◌≡◌, ◌<◌, ◌+◌, ◌++◌, ◌∷◌, [], false, length, IfOk, IfSome, OnOk, Some};
 ghost use Rattle.pv_tree.specs.Tables.{Is, HasList, declaration_at, declarator_at, statement_at as statement_of, trees_at, is_declarator, is_declaration, is_item, is_specifier, is_statement, tree_at, IsListOf};
 ghost use Rattle.pv_tree.specs.Syntax.{is_external};
 ghost use Rattle.pv_types.specs.Known.{tree};
@@ -7,13 +7,13 @@ ghost use Rattle.pv_typed.specs.Known.{Each};
 ghost use Rattle.pv_typed.specs.Tables.{Stored};
 ghost use Rattle.pv_typed.specs.NodeTrees.{statement_at, IsStatement};
 ghost use Rattle.pv_check.specs.Declarators.{parameters_shown, ParameterKnown, SignatureKnown};
-ghost use Rattle.pv_check.specs.Open.{state_of, IsOpen, Goes, ScopeKnown};
+ghost use Rattle.pv_check.specs.Open.{IsOpen, Goes, ScopeKnown, Texts, state_in};
 ghost use Rattle.pv_check.specs.Raw.{raw_of, scope_shown};
 ghost use Rattle.pv_unit.specs.Bodies.{ArePartsIf, IsBodyIf, head_made};
 ghost use Rattle.pv_unit.specs.DeclaredIn.{OpenOn};
 ghost use Rattle.pv_unit.specs.Functions.{within, with_parameter, with_parameters, typed_body, typed_declaration, typed_external};
 ghost use Rattle.pv_unit.specs.FunctionParts.{counted_state, with_body, with_definition};
-ghost use Rattle.pv_unit.specs.Outside.{unit_state, unit_if, Texts};
+ghost use Rattle.pv_unit.specs.Outside.{unit_state, unit_if};
 ghost use Rattle.pv_unit.specs.Stated.{items_if, statements_in, AreStatements, Moves, MovesOn, StatementsOn};
 ghost use Rattle.pv_unit.specs.There.{AreThere, ThereOn};
 ghost use Rattle.pv_unit.specs.AtNodes.{body_items_at, definition_at};
@@ -36,7 +36,7 @@ fn reenter(s: &mut Scopes, into: &TypedUnit, scope: Scope) -> Result<(), NoMemor
     requires known { ScopeKnown into.now (raw_of scope) }
     ensures opened { OnOk result (IsOpen into.now s.new) }
     ensures deep { OnOk result (length s.new.scopes ≡ length s.old.scopes + 1) }
-    ensures state { OnOk result ((texts : List (List ℕ)) → state_of texts false s.new into.now ≡ within (scope_shown into.now.known (raw_of scope)) (state_of texts false s.old into.now)) }
+    ensures state { OnOk result ((texts : Texts) → state_in texts s.new into.now ≡ within (scope_shown into.now.known (raw_of scope)) (state_in texts s.old into.now)) }
 {
     s.reenter(scope)?;
     Ok(())
@@ -49,7 +49,7 @@ fn add_object(s: &Scopes, into: &mut TypedUnit, f: u32, o: u32) -> Result<(), No
     requires object { o < length into.old.objects }
     ensures moves { OnOk result (Moves into.old s.now into.new s.now) }
     ensures types { OnOk result (into.new.known ≡ into.old.known) }
-    ensures state { OnOk result ((texts : List (List ℕ)) → state_of texts false s.now into.new ≡ with_parameter f (Some o) (state_of texts false s.now into.old)) }
+    ensures state { OnOk result ((texts : Texts) → state_in texts s.now into.new ≡ with_parameter f (Some o) (state_in texts s.now into.old)) }
 {
     into.add_param(f, o)?;
     Ok(())
@@ -62,7 +62,7 @@ fn add_parameter(s: &Scopes, into: &mut TypedUnit, f: u32, o: Option<u32>) -> Re
     requires object { IfSome o (λ k. k < length into.old.objects) }
     ensures moves { OnOk result (Moves into.old s.now into.new s.now) }
     ensures types { OnOk result (into.new.known ≡ into.old.known) }
-    ensures state { OnOk result ((texts : List (List ℕ)) → state_of texts false s.now into.new ≡ with_parameter f o (state_of texts false s.now into.old)) }
+    ensures state { OnOk result ((texts : Texts) → state_in texts s.now into.new ≡ with_parameter f o (state_in texts s.now into.old)) }
 {
     match o {
         None => Ok(()),
@@ -82,7 +82,7 @@ fn add_parameters(
     requires parameters { Each (ParameterKnown into.old) parameters.now }
     ensures moves { OnOk result (Moves into.old s.now into.new s.now) }
     ensures types { OnOk result (into.new.known ≡ into.old.known) }
-    ensures state { OnOk result ((texts : List (List ℕ)) → state_of texts false s.now into.new ≡ with_parameters f (parameters_shown into.old.known parameters.now) (state_of texts false s.now into.old)) }
+    ensures state { OnOk result ((texts : Texts) → state_in texts s.now into.new ≡ with_parameters f (parameters_shown into.old.known parameters.now) (state_in texts s.now into.old)) }
 {
     for p in parameters {
         add_parameter(s, into, f, p.object)?;
@@ -96,7 +96,7 @@ fn set_body(s: &Scopes, into: &mut TypedUnit, f: u32, body: NodeId)
     requires function { f < length into.old.functions }
     requires body { IsStatement into.old body }
     ensures moves { Moves into.old s.now into.new s.now }
-    ensures state { (texts : List (List ℕ)) → state_of texts false s.now into.new ≡ with_body f (statement_at into.old body) (state_of texts false s.now into.old) }
+    ensures state { (texts : Texts) → state_in texts s.now into.new ≡ with_body f (statement_at into.old body) (state_in texts s.now into.old) }
 {
     let old = into.function(f);
     into.set_function(
@@ -155,7 +155,7 @@ fn scoped(
     requires empty { items.old.items ≡ [] }
     ensures there { IfOk result (StatementsOn into.new items.new.items) }
     ensures moves { IfOk result (MovesOn into.old s.old into.new s.new) }
-    ensures answer { IfOk result (λ b. items_if t.now.texts s.new into.new items.new.items b ≡ body_items_at u.now into.old.known result_type scope list (state_of t.now.texts false s.old into.old)) }
+    ensures answer { IfOk result (λ b. items_if t.now.texts s.new into.new items.new.items b ≡ body_items_at u.now into.old.known result_type scope list (state_in t.now.texts s.old into.old)) }
 {
     let around = Place {
         result: result_type,
@@ -184,7 +184,7 @@ fn finish(
     requires parameters { Each (ParameterKnown into.old) parameters.now }
     requires items { AreStatements into.old items.now }
     ensures moves { OnOk result (Moves into.old s.now into.new s.now) }
-    ensures state { OnOk result ((texts : Texts) → state_of texts false s.now into.new ≡ with_definition f (parameters_shown into.old.known parameters.now) line (statements_in into.old items.now) (state_of texts false s.now into.old)) }
+    ensures state { OnOk result ((texts : Texts) → state_in texts s.now into.new ≡ with_definition f (parameters_shown into.old.known parameters.now) line (statements_in into.old items.now) (state_in texts s.now into.old)) }
 {
     let made = add_block(s, into, line, items)?;
     add_parameters(s, into, f, parameters)?;
@@ -332,7 +332,7 @@ fn count(s: &Scopes, into: &mut TypedUnit) -> Result<(), NoMemory>
     requires opened { IsOpen into.old s.now }
     ensures goes { OnOk result (Goes into.old into.new) }
     ensures opened { OnOk result (IsOpen into.new s.now) }
-    ensures state { OnOk result ((texts : List (List ℕ)) → state_of texts false s.now into.new ≡ counted_state (state_of texts false s.now into.old)) }
+    ensures state { OnOk result ((texts : Texts) → state_in texts s.now into.new ≡ counted_state (state_in texts s.now into.old)) }
 {
     into.add_declaration()?;
     Ok(())

@@ -1,5 +1,5 @@
 //! What an initializer gives its object (C17 6.7.9p3, p22): the type, and the stores.
-ghost use Rattle.std.specs.Prelude.{◌≡◌, ◌<◌, [], length, List, ℕ, IfOk, OnOk, Some, false, true};
+ghost use Rattle.std.specs.Prelude.{◌≡◌, ◌<◌, [], length, IfOk, OnOk, Some, false, true};
 ghost use Rattle.pv_types.specs.Known.{env, tree};
 ghost use Rattle.pv_types.specs.Formed.{completions};
 ghost use Rattle.pv_tree.specs.Tables.{Forest, Is, initializer_at, is_initializer};
@@ -8,7 +8,7 @@ ghost use Rattle.pv_typed.specs.Known.{AreKnown};
 ghost use Rattle.pv_typed.specs.Tables.{whole_unit};
 ghost use Rattle.pv_check.specs.Growing.{AreSized};
 ghost use Rattle.pv_check.specs.Kept.{Kept};
-ghost use Rattle.pv_check.specs.Open.{state_of, IsOpen, Goes};
+ghost use Rattle.pv_check.specs.Open.{IsOpen, Goes, Texts, state_in};
 ghost use Rattle.pv_unit.specs.DeclaredIn.{OpenOn, GoesOn, state_on};
 ghost use Rattle.pv_unit.specs.Giving.{IsGivenIf, given_if, given_in, with_stores};
 ghost use Rattle.pv_unit.specs.Initializers.{is_braces, is_filling};
@@ -130,7 +130,7 @@ fn initialized_object(
     requires opened { IsOpen into.old s.old }
     requires known { whole.0 < length into.old.known.terms }
     requires none { out.old.items ≡ [] }
-    ensures typed { IfOk result (λ r. given_if t.now.texts s.new into.new out.new.items r ≡ object_stores lasting (tree into.old.known whole.0) (initializer_at u.now.forest i) (state_of t.now.texts false s.old into.old)) }
+    ensures typed { IfOk result (λ r. given_if t.now.texts s.new into.new out.new.items r ≡ object_stores lasting (tree into.old.known whole.0) (initializer_at u.now.forest i) (state_in t.now.texts s.old into.old)) }
     ensures fills { IfOk result (FillsIf into.old into.new s.new out.new.items) }
     ensures known { IfOk result (IsGivenIf into.new) }
 {
@@ -180,7 +180,7 @@ fn filled(
     requires stores { AreStores into.old stores.now }
     ensures opened { OnOk result (IsOpen into.new s.now) }
     ensures goes { OnOk result (Goes into.old into.new) }
-    ensures answer { OnOk result ((texts : List (List ℕ)) → state_of texts false s.now into.new ≡ with_given o (given_in into.old stores.now x) (state_of texts false s.now into.old)) }
+    ensures answer { OnOk result ((texts : Texts) → state_in texts s.now into.new ≡ with_given o (given_in into.old stores.now x) (state_in texts s.now into.old)) }
 {
     let old = into.object(o);
     stored(into, o, stores)?;
@@ -212,7 +212,7 @@ pub(crate) fn given(
     requires object { o < length into.old.objects }
     ensures opened { IfOk result (OpenOn into.new s.new) }
     ensures goes { IfOk result (GoesOn into.old into.new) }
-    ensures answer { IfOk result (λ b. state_on t.now.texts s.new into.new b ≡ object_given lasting o (initializer_at u.now.forest i) (state_of t.now.texts false s.old into.old)) }
+    ensures answer { IfOk result (λ b. state_on t.now.texts s.new into.new b ≡ object_given lasting o (initializer_at u.now.forest i) (state_in t.now.texts s.old into.old)) }
 {
     let whole = into.object(o).t;
     let mut stores = Vec::new(s.allocator());

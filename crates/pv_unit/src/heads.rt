@@ -1,12 +1,12 @@
 //! Heads of function definitions (C17 6.9.1).
-ghost use Rattle.std.specs.Prelude.{◌≡◌, ◌<◌, ◌&&◌, ◌||◌, not, ℕ, List, IfOk, IfSome, OnOk, Some, None, true, false, length, is_some};
+ghost use Rattle.std.specs.Prelude.{◌≡◌, ◌<◌, ◌&&◌, ◌||◌, not, IfOk, IfSome, OnOk, Some, None, true, false, length, is_some};
 ghost use Rattle.pv_tree.specs.Tables.{Is, declarator_at, trees_at, is_declarator, is_specifier, IsListOf};
 ghost use Rattle.pv_types.specs.Known.{tree, env};
 ghost use Rattle.pv_types.specs.Layouts.{is_complete_in};
 ghost use Rattle.pv_check.specs.Derivations.{Signature as WholeSignature, derived_type};
 ghost use Rattle.pv_check.specs.Raw.{Raw};
 ghost use Rattle.pv_check.specs.Stepping.{steps_in, AreSteps};
-ghost use Rattle.pv_check.specs.Open.{state_of, IsOpen, Goes};
+ghost use Rattle.pv_check.specs.Open.{IsOpen, Goes, Texts, state_in, IfAnswered};
 ghost use Rattle.pv_types.specs.Sorts.{is_void};
 ghost use Rattle.pv_unit.specs.Definitions.{may_be_defined, defined_once, head_of, head, may_head};
 ghost use Rattle.pv_unit.specs.HeadParts.{head_derived, head_signed, head_stepped, head_specified, is_definable, head_function, may_define, may_return};
@@ -14,7 +14,7 @@ ghost use Rattle.pv_check.specs.Declarators.{parameter_shown, parameters_shown, 
 ghost use Rattle.pv_unit.specs.DeclaredIn.{specified_in};
 ghost use Rattle.pv_unit.specs.Heads.{ParametersKnown, HeadKnown, head_if, heading_if, HeadBy, HeadWith};
 ghost use Rattle.pv_unit.specs.There.{AreThere};
-ghost use Rattle.pv_unit.specs.Outside.{unit_state, Texts};
+ghost use Rattle.pv_unit.specs.Outside.{unit_state};
 
 use crate::declarators::specified;
 use crate::declaring::function_declared;
@@ -87,7 +87,7 @@ fn may_be_defined(
 ) -> bool
     requires known { result_type.0 < length into.now.known.terms }
     requires parameters { ParametersKnown into.now.known parameters.now }
-    ensures { (texts : List (List ℕ)) (s : Raw) → result ≡ may_be_defined (state_of texts false s into.now) name (tree into.now.known result_type.0) variadic (parameters_shown into.now.known parameters.now) }
+    ensures { (texts : Texts) (s : Raw) → result ≡ may_be_defined (state_in texts s into.now) name (tree into.now.known result_type.0) variadic (parameters_shown into.now.known parameters.now) }
 {
     !variadic
         && !is_of_library(into, name)
@@ -106,7 +106,7 @@ fn defined_once(
     requires entities { AreThere into.now outer.old.entities }
     ensures there { IfSome result (λ d. (d.function ≡ function) × (d.result_type ≡ result_type)) }
     ensures entities { AreThere into.now outer.new.entities }
-    ensures answer { (texts : List (List ℕ)) (g : WholeSignature) → head_if texts s.now into.now outer.new g result ≡ defined_once (tree into.now.known result_type.0) g (function, unit_state texts s.now into.now outer.old) }
+    ensures answer { (texts : Texts) (g : WholeSignature) → head_if texts s.now into.now outer.new g result ≡ defined_once (tree into.now.known result_type.0) g (function, unit_state texts s.now into.now outer.old) }
 {
     if outer.entities.is_initialized(true, function) {
         return None;
@@ -134,7 +134,7 @@ fn head_function(
     requires entities { AreThere into.old outer.old.entities }
     ensures opened { OnOk result (IsOpen into.new s.new) }
     ensures goes { OnOk result (Goes into.old into.new) }
-    ensures there { IfOk result (λ r. IfSome r (λ d. (d.function < length into.new.functions) × (d.result_type.0 < length into.new.known.terms))) }
+    ensures there { IfAnswered result (λ d. (d.function < length into.new.functions) × (d.result_type.0 < length into.new.known.terms)) }
     ensures entities { OnOk result (AreThere into.new outer.new.entities) }
     ensures answer { IfOk result (HeadBy (head_function (tree into.old.known t.0) (tree into.old.known result_type.0) (name, line)) s.old into.old outer.old s.new into.new outer.new) }
 {
@@ -161,7 +161,7 @@ fn head_of(
     requires entities { AreThere into.old outer.old.entities }
     ensures opened { OnOk result (IsOpen into.new s.new) }
     ensures goes { OnOk result (Goes into.old into.new) }
-    ensures there { IfOk result (λ r. IfSome r (λ d. (d.function < length into.new.functions) × (d.result_type.0 < length into.new.known.terms))) }
+    ensures there { IfAnswered result (λ d. (d.function < length into.new.functions) × (d.result_type.0 < length into.new.known.terms)) }
     ensures entities { OnOk result (AreThere into.new outer.new.entities) }
     ensures answer { IfOk result (HeadWith parameters.now (λ g. head_of (tree into.old.known t.0) g (name, line)) s.old into.old outer.old s.new into.new outer.new) }
 {
@@ -205,7 +205,7 @@ pub(crate) fn head_derived(
     requires entities { AreThere into.old outer.old.entities }
     ensures opened { OnOk result (IsOpen into.new s.new) }
     ensures goes { OnOk result (Goes into.old into.new) }
-    ensures there { IfOk result (λ r. IfSome r (λ d. (d.function < length into.new.functions) × (d.result_type.0 < length into.new.known.terms))) }
+    ensures there { IfAnswered result (λ d. (d.function < length into.new.functions) × (d.result_type.0 < length into.new.known.terms)) }
     ensures entities { OnOk result (AreThere into.new outer.new.entities) }
     ensures answer { IfOk result (HeadWith parameters.now (λ g. head_derived (tree into.old.known base.0) (steps_in into.old.known steps.now) g (name, line)) s.old into.old outer.old s.new into.new outer.new) }
 {
@@ -239,9 +239,9 @@ fn head_stepped(
     requires opened { IsOpen into.old s.old }
     requires base { base.0 < length into.old.known.terms }
     requires entities { AreThere into.old outer.old.entities }
-    ensures opened { IfOk result (λ r. IfSome r (λ h. IsOpen into.new s.new)) }
-    ensures known { IfOk result (λ r. IfSome r (HeadKnown into.new)) }
-    ensures entities { IfOk result (λ r. IfSome r (λ h. AreThere into.new outer.new.entities)) }
+    ensures opened { IfAnswered result (λ h. IsOpen into.new s.new) }
+    ensures known { IfAnswered result (HeadKnown into.new) }
+    ensures entities { IfAnswered result (λ h. AreThere into.new outer.new.entities) }
     ensures answer { IfOk result (λ r. heading_if t.now.texts s.new into.new outer.new r ≡ head_stepped (tree into.old.known base.0) (declarator_at u.now.forest d) (unit_state t.now.texts s.old into.old outer.old) (name, line)) }
 {
     let Some(steps) = steps_of(s.allocator(), u, t, s, into, d, false)? else {
@@ -265,9 +265,9 @@ fn head_signed(
     requires base { base.0 < length into.old.known.terms }
     requires steps { StepsKnown into.old steps }
     requires entities { AreThere into.old outer.old.entities }
-    ensures opened { IfOk result (λ r. IfSome r (λ h. IsOpen into.new s.new)) }
-    ensures known { IfOk result (λ r. IfSome r (HeadKnown into.new)) }
-    ensures entities { IfOk result (λ r. IfSome r (λ h. AreThere into.new outer.new.entities)) }
+    ensures opened { IfAnswered result (λ h. IsOpen into.new s.new) }
+    ensures known { IfAnswered result (HeadKnown into.new) }
+    ensures entities { IfAnswered result (λ h. AreThere into.new outer.new.entities) }
     ensures answer { IfOk result (λ r. (texts : Texts) → heading_if texts s.new into.new outer.new r ≡ head_signed (tree into.old.known base.0) (steps_shown into.old.known steps) (name, line) (unit_state texts s.old into.old outer.old)) }
 {
     let Steps { list, signature } = steps;
@@ -298,9 +298,9 @@ fn head_specified(
     requires opened { IsOpen into.old s.old }
     requires known { x.t.0 < length into.old.known.terms }
     requires entities { AreThere into.old outer.old.entities }
-    ensures opened { IfOk result (λ r. IfSome r (λ h. IsOpen into.new s.new)) }
-    ensures known { IfOk result (λ r. IfSome r (HeadKnown into.new)) }
-    ensures entities { IfOk result (λ r. IfSome r (λ h. AreThere into.new outer.new.entities)) }
+    ensures opened { IfAnswered result (λ h. IsOpen into.new s.new) }
+    ensures known { IfAnswered result (HeadKnown into.new) }
+    ensures entities { IfAnswered result (λ h. AreThere into.new outer.new.entities) }
     ensures answer { IfOk result (λ r. heading_if t.now.texts s.new into.new outer.new r ≡ head_specified (specified_in into.old.known x) (declarator_at u.now.forest d) (unit_state t.now.texts s.old into.old outer.old)) }
 {
     if !may_head(x.storage) {
@@ -327,9 +327,9 @@ pub(crate) fn head(
     requires node { Is u.now is_declarator d }
     requires opened { IsOpen into.old s.old }
     requires entities { AreThere into.old outer.old.entities }
-    ensures opened { IfOk result (λ r. IfSome r (λ h. IsOpen into.new s.new)) }
-    ensures known { IfOk result (λ r. IfSome r (HeadKnown into.new)) }
-    ensures entities { IfOk result (λ r. IfSome r (λ h. AreThere into.new outer.new.entities)) }
+    ensures opened { IfAnswered result (λ h. IsOpen into.new s.new) }
+    ensures known { IfAnswered result (HeadKnown into.new) }
+    ensures entities { IfAnswered result (λ h. AreThere into.new outer.new.entities) }
     ensures answer { IfOk result (λ r. heading_if t.now.texts s.new into.new outer.new r ≡ head (trees_at u.now.forest specs) (declarator_at u.now.forest d) (unit_state t.now.texts s.old into.old outer.old)) }
 {
     let Some(x) = specified(u, t, s, into, specs)? else {

@@ -1,5 +1,5 @@
 //! Typing initializers (C17 6.7.9).
-ghost use Rattle.std.specs.Prelude.{◌≡◌, ◌<◌, ◌≤◌, ◌*◌, ◌^◌, length, List, ℕ, IfOk, IfSome, OnOk, Some, false, option_map, true};
+ghost use Rattle.std.specs.Prelude.{◌≡◌, ◌<◌, ◌≤◌, ◌*◌, ◌^◌, length, IfOk, OnOk, Some, false, option_map, true};
 ghost use Rattle.pv_types.specs.Known.{env, tree};
 ghost use Rattle.pv_types.specs.Formed.{completions};
 ghost use Rattle.pv_types.specs.Layouts.{layout_in, is_complete_in};
@@ -10,7 +10,7 @@ ghost use Rattle.pv_typed.specs.Known.{AreKnown};
 ghost use Rattle.pv_typed.specs.NodeTrees.{expression_at, IsExpression};
 ghost use Rattle.pv_check.specs.Growing.{AreSized, IsType, type_if};
 ghost use Rattle.pv_check.specs.Kept.{Kept, expression_if};
-ghost use Rattle.pv_check.specs.Open.{state_of, IsOpen, Goes};
+ghost use Rattle.pv_check.specs.Open.{IsOpen, Goes, Texts, state_in, IfAnswered};
 ghost use Rattle.pv_check.specs.StringLiterals.{bytes_of_text};
 ghost use Rattle.pv_check.specs.Raw.{Raw};
 ghost use Rattle.pv_check.specs.Values.{as_if_assigned};
@@ -36,7 +36,7 @@ use pv_types::{NoMemory, Term, TypeId, Types};
 fn allowed(into: &TypedUnit, lasting: bool, a: NodeId) -> bool
     requires known { AreKnown into.now }
     requires node { IsExpression into.now a }
-    ensures { (texts : List (List ℕ)) (s : Raw) → result ≡ is_allowed values lasting (state_of texts false s into.now) (expression_at into.now a) }
+    ensures { (texts : Texts) (s : Raw) → result ≡ is_allowed values lasting (state_in texts s into.now) (expression_at into.now a) }
 {
     !lasting || constant(into, a).is_some()
 }
@@ -50,7 +50,7 @@ pub(crate) fn assigned(
     requires known { AreKnown into.old }
     requires target { t.0 < length into.old.known.terms }
     requires node { IsExpression into.old a }
-    ensures node { IfOk result (λ r. IfSome r (λ v. IsExpression into.new v)) }
+    ensures node { IfAnswered result (IsExpression into.new) }
     ensures typed { IfOk result (λ r. expression_if into.new r ≡ as_if_assigned (tree into.old.known t.0) (expression_at into.old a)) }
     ensures kept { OnOk result (Kept into.old into.new) }
 {
@@ -76,7 +76,7 @@ fn single(
     requires stores { AreStores into.old out.old.items }
     ensures typed { IfOk result (λ r. stores_if t.now.texts s.new into.new out.new.items r ≡ stores_by (single_store values lasting (part_of into.old.known part) (expression_of u.now.forest a)) t.now.texts s.old into.old out.old.items) }
     ensures fills { IfOk result (FillsIf into.old into.new s.new out.new.items) }
-    ensures one { IfOk result (λ r. IfSome r (λ n. n ≡ 1)) }
+    ensures one { IfAnswered result (λ n. n ≡ 1) }
 {
     let Some(value) = operand(s, u, t, a, false, into)? else {
         return Ok(None);
@@ -128,7 +128,7 @@ fn zero(
     requires stores { AreStores into.old out.old.items }
     ensures typed { IfOk result (λ r. stores_if t.now.texts s.new into.new out.new.items r ≡ stores_by (zero values lasting (part_of into.old.known part) (expression_of u.now.forest a)) t.now.texts s.old into.old out.old.items) }
     ensures fills { IfOk result (FillsIf into.old into.new s.new out.new.items) }
-    ensures one { IfOk result (λ r. IfSome r (λ n. n ≡ 1)) }
+    ensures one { IfAnswered result (λ n. n ≡ 1) }
 {
     match zero_leaf(into.types(), part) {
         Some(leaf) => single(s, u, t, into, leaf, a, lasting, out),
@@ -159,7 +159,7 @@ fn filling(
     ensures length { IfOk result (λ x. x.length ≡ length (bytes_of_text t.now.texts first more)) }
     ensures types { OnOk result (into.new.known ≡ into.old.known) }
     ensures goes { OnOk result (Goes into.old into.new) }
-    ensures state { OnOk result (state_of t.now.texts false s.now into.new ≡ (filling_text line (bytes_of_text t.now.texts first more) (state_of t.now.texts false s.now into.old)).state) }
+    ensures state { OnOk result (state_in t.now.texts s.now into.new ≡ (filling_text line (bytes_of_text t.now.texts first more) (state_in t.now.texts s.now into.old)).state) }
 {
     let bytes = bytes_of_text(s.allocator(), t, first, more)?;
     let number = into.add_literal(&bytes, line, false)?;

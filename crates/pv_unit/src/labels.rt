@@ -1,8 +1,8 @@
 //! Labels of a switch (C17 6.8.1, 6.8.4.2).
-ghost use Rattle.std.specs.Prelude.{false, ◌≡◌, ◌<◌, ◌++◌, ◌∷◌, [], ◌≤◌, ℕ, List, if◌then◌else◌, not, length, map, drop, IfOk, OnOk, IfSome};
+ghost use Rattle.std.specs.Prelude.{false, ◌≡◌, ◌<◌, ◌++◌, ◌∷◌, [], ◌≤◌, if◌then◌else◌, not, length, map, drop, IfOk, OnOk};
 ghost use Rattle.pv_tree.specs.Tables.{statement_at as statement_of, trees_at, expression_at as expression_of, is_expression, is_statement, Is, IsListOf};
 ghost use Rattle.pv_typed.specs.NodeTrees.{statement_at, expression_at, IsExpression, IsStatement};
-ghost use Rattle.pv_check.specs.Open.{state_of, IsOpen};
+ghost use Rattle.pv_check.specs.Open.{IsOpen, Texts, state_in, KeepsState, IfAnswered};
 ghost use Rattle.pv_typed.specs.Constants.{and_then};
 ghost use Rattle.pv_unit.specs.Stated.{Moves, MovesOn};
 ghost use Rattle.pv_unit.specs.Statements.{taken_value, typed_label, under};
@@ -81,7 +81,7 @@ fn case_label(
 ) -> Option<Label>
     requires opened { IsOpen into.now s.now }
     requires node { IsExpression into.now value }
-    ensures { (texts : List (List ℕ)) → label_if texts s.now into.now result ≡ case_label kind line (record { value = expression_at into.now value; state = state_of texts false s.now into.now }) }
+    ensures { (texts : Texts) → label_if texts s.now into.now result ≡ case_label kind line (record { value = expression_at into.now value; state = state_in texts s.now into.now }) }
 {
     match integer(into, value) {
         Some(number) => Some(Label::Case {
@@ -104,8 +104,8 @@ fn constant_label(
 ) -> Result<Option<Label>, NoMemory>
     requires node { Is u.now is_expression a }
     requires opened { IsOpen into.old s.old }
-    ensures moves { IfOk result (λ r. IfSome r (λ l. Moves into.old s.old into.new s.new)) }
-    ensures typed { IfOk result (λ r. label_if t.now.texts s.new into.new r ≡ and_then (taken_value (expression_of u.now.forest a) (state_of t.now.texts false s.old into.old)) (case_label kind line)) }
+    ensures moves { IfAnswered result (λ l. Moves into.old s.old into.new s.new) }
+    ensures typed { IfOk result (λ r. label_if t.now.texts s.new into.new r ≡ and_then (taken_value (expression_of u.now.forest a) (state_in t.now.texts s.old into.old)) (case_label kind line)) }
 {
     let Some(value) = value_of(u, t, s, into, a)? else {
         return Ok(None);
@@ -124,8 +124,8 @@ fn one_label(
 ) -> Result<Option<Label>, NoMemory>
     requires node { Is u.now is_statement n }
     requires opened { IsOpen into.old s.old }
-    ensures moves { IfOk result (λ r. IfSome r (λ l. Moves into.old s.old into.new s.new)) }
-    ensures typed { IfOk result (λ r. label_if t.now.texts s.new into.new r ≡ typed_label kind (statement_of u.now.forest n) (state_of t.now.texts false s.old into.old)) }
+    ensures moves { IfAnswered result (λ l. Moves into.old s.old into.new s.new) }
+    ensures typed { IfOk result (λ r. label_if t.now.texts s.new into.new r ≡ typed_label kind (statement_of u.now.forest n) (state_in t.now.texts s.old into.old)) }
 {
     let line = u.line(n);
     match u.stmt(n) {
@@ -164,7 +164,7 @@ pub(crate) fn under(
     requires place { from ≤ length labels.now }
     ensures there { IfOk result (IsStatement into.new) }
     ensures tree { IfOk result (λ n. statement_at into.new n ≡ under (labels_of (drop from labels.now)) (statement_at into.old body)) }
-    ensures state { OnOk result ((texts : List (List ℕ)) → state_of texts false s.now into.new ≡ state_of texts false s.now into.old) }
+    ensures state { OnOk result (KeepsState s.now into.old into.new) }
     ensures moves { OnOk result (Moves into.old s.now into.new s.now) }
 {
     let mut node = body;
@@ -198,7 +198,7 @@ fn further(
     requires same { HasKeys labels.old }
     ensures same { OnOk result (HasKeys labels.new) }
     ensures moves { IfOk result (MovesOn into.old s.old into.new s.new) }
-    ensures typed { IfOk result (λ b. labels_if t.now.texts s.new into.new labels.new.all.items b ≡ label_behind kind (labels_of labels.old.all.items) (statement_of u.now.forest n) (state_of t.now.texts false s.old into.old)) }
+    ensures typed { IfOk result (λ b. labels_if t.now.texts s.new into.new labels.new.all.items b ≡ label_behind kind (labels_of labels.old.all.items) (statement_of u.now.forest n) (state_in t.now.texts s.old into.old)) }
 {
     let Some(found) = one_label(u, t, s, into, kind, n)? else {
         return Ok(false);
@@ -222,7 +222,7 @@ pub(crate) fn all_labels(
     requires same { HasKeys labels.old }
     ensures same { OnOk result (HasKeys labels.new) }
     ensures moves { IfOk result (MovesOn into.old s.old into.new s.new) }
-    ensures typed { IfOk result (λ b. labels_if t.now.texts s.new into.new labels.new.all.items b ≡ labels_behind kind (labels_of labels.old.all.items) (trees_at u.now.forest list) (state_of t.now.texts false s.old into.old)) }
+    ensures typed { IfOk result (λ b. labels_if t.now.texts s.new into.new labels.new.all.items b ≡ labels_behind kind (labels_of labels.old.all.items) (trees_at u.now.forest list) (state_in t.now.texts s.old into.old)) }
 {
     let nodes = u.list(list);
     for node in nodes {

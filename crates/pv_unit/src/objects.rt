@@ -1,11 +1,11 @@
 //! Objects and functions in the tables, and their names in the innermost scope (C17 6.2.1, 6.7).
-ghost use Rattle.std.specs.Prelude.{◌≡◌, ◌<◌, ◌+◌, ◌++◌, ◌∷◌, [], ℕ, Bool, List, None, Some, IfOk, IfSome, IsTrue, OnOk, true, if◌then◌else◌, length};
+ghost use Rattle.std.specs.Prelude.{◌≡◌, ◌<◌, ◌+◌, ◌++◌, ◌∷◌, [], Bool, None, Some, IfOk, IfSome, IsTrue, OnOk, true, if◌then◌else◌, length};
 ghost use Rattle.pv_types.specs.Known.{tree};
 ghost use Rattle.pv_types.specs.Compatible.{are_compatible};
 ghost use Rattle.pv_typed.specs.Known.{AreKnown};
 ghost use Rattle.pv_typed.specs.Tables.{whole_unit};
 ghost use Rattle.pv_check.specs.Composite.{composite_of};
-ghost use Rattle.pv_check.specs.Open.{state_of, after_nothing, IsOpen, Goes, EntryKnown};
+ghost use Rattle.pv_check.specs.Open.{state_of, after_nothing, IsOpen, Goes, EntryKnown, Texts, IfAnswered};
 ghost use Rattle.pv_check.specs.Growing.{type_if};
 ghost use Rattle.pv_check.specs.Raw.{raw_innermost, meaning_if, with_name};
 ghost use Rattle.pv_check.specs.State.{TypedefOf};
@@ -35,7 +35,7 @@ pub(crate) fn found(s: &Scopes, into: &TypedUnit, name: u32) -> Option<Entry>
     requires { IsOpen into.now s.now }
     ensures raw { result ≡ find (raw_innermost s.now.scopes).names name }
     ensures known { IfSome result (EntryKnown into.now) }
-    ensures meaning { (texts : List (List ℕ)) (u : Bool) → meaning_if into.now.known result ≡ find (innermost_scope (state_of texts u s.now into.now).scopes).names name }
+    ensures meaning { (texts : Texts) (u : Bool) → meaning_if into.now.known result ≡ find (innermost_scope (state_of texts u s.now into.now).scopes).names name }
 {
     s.inner(name)
 }
@@ -66,7 +66,7 @@ pub(crate) fn new_object(
     ensures goes { OnOk result (Goes into.old into.new) }
     ensures number { IfOk result (λ o. (o ≡ length into.old.objects) × (o < length into.new.objects)) }
     ensures types { OnOk result (into.new.known ≡ into.old.known) }
-    ensures answer { OnOk result ((texts : List (List ℕ)) (u : Bool) → state_of texts u s.new into.new ≡ new_object name line (tree into.old.known t.0) lasting (state_of texts u s.old into.old)) }
+    ensures answer { OnOk result ((texts : Texts) (u : Bool) → state_of texts u s.new into.new ≡ new_object name line (tree into.old.known t.0) lasting (state_of texts u s.old into.old)) }
 {
     let known = unit_name(into, name)?;
     let o = into.add_object(Object {
@@ -95,7 +95,7 @@ pub(crate) fn new_function(
     ensures goes { OnOk result (Goes into.old into.new) }
     ensures number { IfOk result (λ f. (f ≡ length into.old.functions) × (f < length into.new.functions)) }
     ensures types { OnOk result (into.new.known ≡ into.old.known) }
-    ensures answer { OnOk result ((texts : List (List ℕ)) (u : Bool) → state_of texts u s.new into.new ≡ new_function name line (tree into.old.known t.0) (state_of texts u s.old into.old)) }
+    ensures answer { OnOk result ((texts : Texts) (u : Bool) → state_of texts u s.new into.new ≡ new_function name line (tree into.old.known t.0) (state_of texts u s.old into.old)) }
 {
     let known = unit_name(into, name)?;
     let f = into.add_function(Function {
@@ -119,7 +119,7 @@ pub(crate) fn new_typedef(
     requires known { t.0 < length into.now.known.terms }
     requires fresh { find (raw_innermost s.old.scopes).names name ≡ None }
     ensures opened { OnOk result (IsOpen into.now s.new) }
-    ensures answer { OnOk result ((texts : List (List ℕ)) (u : Bool) → state_of texts u s.new into.now ≡ bind name (TypedefOf (tree into.now.known t.0)) (state_of texts u s.old into.now)) }
+    ensures answer { OnOk result ((texts : Texts) (u : Bool) → state_of texts u s.new into.now ≡ bind name (TypedefOf (tree into.now.known t.0)) (state_of texts u s.old into.now)) }
 {
     named(s, name, Entry::Typedef(t))?;
     Ok(())
@@ -133,7 +133,7 @@ pub(crate) fn retyped_object(s: &Scopes, into: &mut TypedUnit, o: u32, t: TypeId
     ensures opened { IsOpen into.new s.now }
     ensures goes { Goes into.old into.new }
     ensures types { into.new.known ≡ into.old.known }
-    ensures answer { (texts : List (List ℕ)) (u : Bool) → state_of texts u s.now into.new ≡ with_object_type o (tree into.old.known t.0) (state_of texts u s.now into.old) }
+    ensures answer { (texts : Texts) (u : Bool) → state_of texts u s.now into.new ≡ with_object_type o (tree into.old.known t.0) (state_of texts u s.now into.old) }
 {
     let old = into.object(o);
     into.set_object(
@@ -156,7 +156,7 @@ pub(crate) fn retyped_function(s: &Scopes, into: &mut TypedUnit, f: u32, t: Type
     ensures opened { IsOpen into.new s.now }
     ensures goes { Goes into.old into.new }
     ensures types { into.new.known ≡ into.old.known }
-    ensures answer { (texts : List (List ℕ)) (u : Bool) → state_of texts u s.now into.new ≡ with_function_type f (tree into.old.known t.0) (state_of texts u s.now into.old) }
+    ensures answer { (texts : Texts) (u : Bool) → state_of texts u s.now into.new ≡ with_function_type f (tree into.old.known t.0) (state_of texts u s.now into.old) }
 {
     let old = into.function(f);
     into.set_function(
@@ -203,7 +203,7 @@ fn composed(
     ensures opened { OnOk result (IsOpen into.new s.now) }
     ensures goes { OnOk result (Goes into.old into.new) }
     ensures whole { OnOk result (whole_unit into.new ≡ whole_unit into.old) }
-    ensures known { IfOk result (λ r. IfSome r (λ t. t.0 < length into.new.known.terms)) }
+    ensures known { IfAnswered result (λ t. t.0 < length into.new.known.terms) }
     ensures tree { IfOk result (λ r. type_if into.new.known r ≡ (if are_compatible (tree into.old.known a.0) (tree into.old.known b.0) then Some (composite_of (tree into.old.known a.0) (tree into.old.known b.0)) else None)) }
 {
     if !into.types().compatible(a, b) {
@@ -225,7 +225,7 @@ pub(crate) fn object_composed(
     requires known { t.0 < length into.old.known.terms }
     ensures opened { OnOk result (IsOpen into.new s.now) }
     ensures goes { OnOk result (Goes into.old into.new) }
-    ensures answer { IfOk result (λ b. (texts : List (List ℕ)) (u : Bool) → after_nothing texts u s.now into.new b ≡ object_composed o (tree into.old.known t.0) (state_of texts u s.now into.old)) }
+    ensures answer { IfOk result (λ b. (texts : Texts) (u : Bool) → after_nothing texts u s.now into.new b ≡ object_composed o (tree into.old.known t.0) (state_of texts u s.now into.old)) }
 {
     let before = into.object(o);
     let Some(both) = composed(s, into, before.t, t)? else {
@@ -247,7 +247,7 @@ pub(crate) fn function_composed(
     requires known { t.0 < length into.old.known.terms }
     ensures opened { OnOk result (IsOpen into.new s.now) }
     ensures goes { OnOk result (Goes into.old into.new) }
-    ensures answer { IfOk result (λ b. (texts : List (List ℕ)) (u : Bool) → after_nothing texts u s.now into.new b ≡ function_composed f (tree into.old.known t.0) (state_of texts u s.now into.old)) }
+    ensures answer { IfOk result (λ b. (texts : Texts) (u : Bool) → after_nothing texts u s.now into.new b ≡ function_composed f (tree into.old.known t.0) (state_of texts u s.now into.old)) }
 {
     let before = into.function(f);
     let Some(both) = composed(s, into, before.t, t)? else {

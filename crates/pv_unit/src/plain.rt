@@ -1,10 +1,10 @@
 //! Statements that hold no statements (C17 6.8.3, 6.8.6), and the declaration of a `for`.
-ghost use Rattle.std.specs.Prelude.{false, ◌≡◌, [], ◌<◌, ℕ, List, length, IfOk, IfSome, OnOk};
+ghost use Rattle.std.specs.Prelude.{false, ◌≡◌, [], ◌<◌, length, IfOk, OnOk};
 ghost use Rattle.pv_tree.specs.Tables.{statement_at as statement_of, declaration_at, tree_at, optional_at, is_expression, is_statement, is_declaration, Is, IsOptionalOf};
 ghost use Rattle.pv_tree.specs.Syntax.{ExpressionStatement, Break, Continue, Return};
 ghost use Rattle.pv_tree.specs.TreeLines.{tree_line};
 ghost use Rattle.pv_typed.specs.NodeTrees.{statement_at, IsStatement};
-ghost use Rattle.pv_check.specs.Open.{state_of, IsOpen, EntryKnown};
+ghost use Rattle.pv_check.specs.Open.{IsOpen, EntryKnown, Texts, state_in, KeepsState, IfAnswered};
 ghost use Rattle.pv_check.specs.Raw.{meaning_in};
 ghost use Rattle.pv_typed.specs.Constants.{and_then};
 ghost use Rattle.pv_unit.specs.Blocks.{block_declaration};
@@ -44,7 +44,7 @@ fn add_expression(
     requires value { IsOptional into.old value }
     ensures there { IfOk result (IsStatement into.new) }
     ensures tree { IfOk result (λ n. statement_at into.new n ≡ expression_of line (optional_in into.old value)) }
-    ensures state { OnOk result ((texts : List (List ℕ)) → state_of texts false s.now into.new ≡ state_of texts false s.now into.old) }
+    ensures state { OnOk result (KeepsState s.now into.old into.new) }
     ensures moves { OnOk result (Moves into.old s.now into.new s.now) }
 {
     match value {
@@ -68,9 +68,9 @@ pub(crate) fn expression_statement(
     requires is { statement_of u.now.forest n ≡ ExpressionStatement (tree_line (tree_at u.now.forest n)) (optional_at u.now.forest a) }
     requires opened { IsOpen into.old s.old }
     requires known { w.result.0 < length into.old.known.terms }
-    ensures there { IfOk result (λ r. IfSome r (IsStatement into.new)) }
-    ensures moves { IfOk result (λ r. IfSome r (λ n. Moves into.old s.old into.new s.new)) }
-    ensures typed { IfOk result (λ r. stated_if t.now.texts s.new into.new r ≡ typed_statement (around_in into.old.known w) (statement_of u.now.forest n) (state_of t.now.texts false s.old into.old)) }
+    ensures there { IfAnswered result (IsStatement into.new) }
+    ensures moves { IfAnswered result (λ n. Moves into.old s.old into.new s.new) }
+    ensures typed { IfOk result (λ r. stated_if t.now.texts s.new into.new r ≡ typed_statement (around_in into.old.known w) (statement_of u.now.forest n) (state_in t.now.texts s.old into.old)) }
 {
     let Some(value) = optional_value(u, t, s, into, a)? else {
         return Ok(None);
@@ -92,9 +92,9 @@ pub(crate) fn break_statement(
     requires is { statement_of u.now.forest n ≡ Break (tree_line (tree_at u.now.forest n)) }
     requires opened { IsOpen into.old s.old }
     requires known { w.result.0 < length into.old.known.terms }
-    ensures there { IfOk result (λ r. IfSome r (IsStatement into.new)) }
-    ensures moves { IfOk result (λ r. IfSome r (λ n. Moves into.old s.old into.new s.new)) }
-    ensures typed { IfOk result (λ r. stated_if t.now.texts s.new into.new r ≡ typed_statement (around_in into.old.known w) (statement_of u.now.forest n) (state_of t.now.texts false s.old into.old)) }
+    ensures there { IfAnswered result (IsStatement into.new) }
+    ensures moves { IfAnswered result (λ n. Moves into.old s.old into.new s.new) }
+    ensures typed { IfOk result (λ r. stated_if t.now.texts s.new into.new r ≡ typed_statement (around_in into.old.known w) (statement_of u.now.forest n) (state_in t.now.texts s.old into.old)) }
 {
     if w.breaks {
         let made = add(s, into, TypedStmt::Break, u.line(n), &[])?;
@@ -117,9 +117,9 @@ pub(crate) fn continue_statement(
     requires is { statement_of u.now.forest n ≡ Continue (tree_line (tree_at u.now.forest n)) }
     requires opened { IsOpen into.old s.old }
     requires known { w.result.0 < length into.old.known.terms }
-    ensures there { IfOk result (λ r. IfSome r (IsStatement into.new)) }
-    ensures moves { IfOk result (λ r. IfSome r (λ n. Moves into.old s.old into.new s.new)) }
-    ensures typed { IfOk result (λ r. stated_if t.now.texts s.new into.new r ≡ typed_statement (around_in into.old.known w) (statement_of u.now.forest n) (state_of t.now.texts false s.old into.old)) }
+    ensures there { IfAnswered result (IsStatement into.new) }
+    ensures moves { IfAnswered result (λ n. Moves into.old s.old into.new s.new) }
+    ensures typed { IfOk result (λ r. stated_if t.now.texts s.new into.new r ≡ typed_statement (around_in into.old.known w) (statement_of u.now.forest n) (state_in t.now.texts s.old into.old)) }
 {
     if w.continues {
         let made = add(s, into, TypedStmt::Continue, u.line(n), &[])?;
@@ -144,9 +144,9 @@ pub(crate) fn return_statement(
     requires is { statement_of u.now.forest n ≡ Return (tree_line (tree_at u.now.forest n)) (optional_at u.now.forest a) }
     requires opened { IsOpen into.old s.old }
     requires known { w.result.0 < length into.old.known.terms }
-    ensures there { IfOk result (λ r. IfSome r (IsStatement into.new)) }
-    ensures moves { IfOk result (λ r. IfSome r (λ n. Moves into.old s.old into.new s.new)) }
-    ensures typed { IfOk result (λ r. stated_if t.now.texts s.new into.new r ≡ typed_statement (around_in into.old.known w) (statement_of u.now.forest n) (state_of t.now.texts false s.old into.old)) }
+    ensures there { IfAnswered result (IsStatement into.new) }
+    ensures moves { IfAnswered result (λ n. Moves into.old s.old into.new s.new) }
+    ensures typed { IfOk result (λ r. stated_if t.now.texts s.new into.new r ≡ typed_statement (around_in into.old.known w) (statement_of u.now.forest n) (state_in t.now.texts s.old into.old)) }
 {
     let line = u.line(n);
     match a {
@@ -165,7 +165,7 @@ pub(crate) fn return_statement(
 fn is_automatic(s: &Scopes, into: &TypedUnit, what: Entry) -> bool
     requires opened { IsOpen into.now s.now }
     requires known { EntryKnown into.now what }
-    ensures { (texts : List (List ℕ)) → result ≡ is_automatic (state_of texts false s.now into.now) (meaning_in into.now.known what) }
+    ensures { (texts : Texts) → result ≡ is_automatic (state_in texts s.now into.now) (meaning_in into.now.known what) }
 {
     match what {
         Entry::Object(o) => !into.object(o).lasting,
@@ -176,7 +176,7 @@ fn is_automatic(s: &Scopes, into: &TypedUnit, what: Entry) -> bool
 /// Whether the innermost scope declares nothing but automatic objects.
 fn automatic_alone(s: &Scopes, into: &TypedUnit) -> bool
     requires { IsOpen into.now s.now }
-    ensures { (texts : List (List ℕ)) → result ≡ automatic_alone (state_of texts false s.now into.now) }
+    ensures { (texts : Texts) → result ≡ automatic_alone (state_in texts s.now into.now) }
 {
     for i in 0..s.bound() {
         let Some(what) = s.inner_at(i as usize) else {
@@ -203,7 +203,7 @@ pub(crate) fn first_declared(
     requires none { items.old.items ≡ [] }
     ensures there { IfOk result (StatementsOn into.new items.new.items) }
     ensures moves { IfOk result (MovesOn into.old s.old into.new s.new) }
-    ensures typed { IfOk result (λ b. items_if t.now.texts s.new into.new items.new.items b ≡ and_then (block_declaration (declaration_at u.now.forest d) (state_of t.now.texts false s.old into.old)) if_automatic) }
+    ensures typed { IfOk result (λ b. items_if t.now.texts s.new into.new items.new.items b ≡ and_then (block_declaration (declaration_at u.now.forest d) (state_in t.now.texts s.old into.old)) if_automatic) }
 {
     if !add_declaration(u, t, s, into, d, items)? {
         return Ok(false);

@@ -1,12 +1,12 @@
 //! Names that nothing defines (C17 6.9p5), `main` (C17 5.1.2.2.1), and static objects (C17 6.2.4p3).
-ghost use Rattle.std.specs.Prelude.{◌≡◌, ◌<◌, ◌&&◌, ◌||◌, not, nat_eq, ℕ, Bool, List, true, false, length, map, None, Some, is_some, IfOk, OnOk, slice_index_or};
+ghost use Rattle.std.specs.Prelude.{◌≡◌, ◌<◌, ◌&&◌, ◌||◌, not, nat_eq, ℕ, Bool, true, false, length, map, None, Some, is_some, IfOk, OnOk, slice_index_or};
 ghost use Rattle.std.specs.Cmp.Lexicographic.{pointwise};
 ghost use Rattle.pv_typed.specs.Formed.{Grown};
 ghost use Rattle.pv_typed.specs.Known.{AreKnown};
 ghost use Rattle.pv_typed.specs.Mains.{main_text};
 ghost use Rattle.pv_typed.specs.Tables.{whole_unit};
 ghost use Rattle.pv_typed.specs.TypedUnits.{object_at, function_at};
-ghost use Rattle.pv_check.specs.Open.{state_of, IsOpen};
+ghost use Rattle.pv_check.specs.Open.{IsOpen, Texts, state_in};
 ghost use Rattle.pv_check.specs.Raw.{Raw, used_of};
 ghost use Rattle.pv_unit.specs.Entering.{entity_of};
 ghost use Rattle.pv_unit.specs.Resolving.{has_use, AreUses, ArePointed, placed_if};
@@ -73,7 +73,7 @@ fn is_used(all: &Uses, e: Entity) -> bool
 /// Whether an expression names it, and nothing defines it.
 fn is_unresolved(s: &Scopes, into: &TypedUnit, all: &Uses, e: Entity) -> bool
     requires { AreUses s.now.used all.now }
-    ensures { (texts : List (List ℕ)) → result ≡ is_unresolved (state_of texts false s.now into.now) (entity_of e) }
+    ensures { (texts : Texts) → result ≡ is_unresolved (state_in texts s.now into.now) (entity_of e) }
 {
     is_used(all, e) && !e.defined && !(e.function && is_of_library(into, e.name))
 }
@@ -84,7 +84,7 @@ pub(crate) fn unresolved(
     into: &TypedUnit,
     outer: &Outer,
 ) -> Result<Option<u32>, NoMemory>
-    ensures { IfOk result (λ r. (texts : List (List ℕ)) → r ≡ first_unresolved (state_of texts false s.now into.now) outer.now.entities) }
+    ensures { IfOk result (λ r. (texts : Texts) → r ≡ first_unresolved (state_in texts s.now into.now) outer.now.entities) }
 {
     let all = uses_of(s.allocator(), s.used())?;
     for i in 0..outer.entities.len() {

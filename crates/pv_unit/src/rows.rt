@@ -1,12 +1,12 @@
 //! Parts of statements that hold no statements (C17 6.8).
-ghost use Rattle.std.specs.Prelude.{false, ◌≡◌, ◌<◌, ◌&&◌, ◌==◌, ℕ, List, length, IfOk, OnOk, IfSome, Some};
+ghost use Rattle.std.specs.Prelude.{false, ◌≡◌, ◌<◌, ◌&&◌, ◌==◌, length, IfOk, OnOk, Some};
 ghost use Rattle.pv_tree.specs.Tables.{expression_at as expression_of, statement_at as statement_of, tree_at, optional_at, is_expression, is_statement, Is, IsOptionalOf};
 ghost use Rattle.pv_types.specs.Known.{tree};
 ghost use Rattle.pv_typed.specs.TypedTree.{type_of};
 ghost use Rattle.pv_typed.specs.NodeTrees.{expression_at, IsExpression, IsStatement};
 ghost use Rattle.pv_check.specs.Arms.{after_node};
 ghost use Rattle.pv_check.specs.Kept.{expression_if};
-ghost use Rattle.pv_check.specs.Open.{state_of, IsOpen};
+ghost use Rattle.pv_check.specs.Open.{IsOpen, Texts, state_in, KeepsState, IfAnswered};
 ghost use Rattle.pv_types.specs.Sorts.{kind_of, is_scalar};
 ghost use Rattle.pv_check.specs.State.{give};
 ghost use Rattle.pv_typed.specs.Constants.{and_then};
@@ -34,9 +34,9 @@ pub(crate) fn value_of(
 ) -> Result<Option<NodeId>, NoMemory>
     requires node { Is u.now is_expression a }
     requires opened { IsOpen into.old s.old }
-    ensures there { IfOk result (λ r. IfSome r (IsExpression into.new)) }
-    ensures moves { IfOk result (λ r. IfSome r (λ n. Moves into.old s.old into.new s.new)) }
-    ensures typed { IfOk result (λ r. after_node t.now.texts false s.new into.new r ≡ taken_value (expression_of u.now.forest a) (state_of t.now.texts false s.old into.old)) }
+    ensures there { IfAnswered result (IsExpression into.new) }
+    ensures moves { IfAnswered result (λ n. Moves into.old s.old into.new s.new) }
+    ensures typed { IfOk result (λ r. after_node t.now.texts false s.new into.new r ≡ taken_value (expression_of u.now.forest a) (state_in t.now.texts s.old into.old)) }
 {
     let r = operand(s, u, t, a, false, into)?;
     Ok(r)
@@ -61,9 +61,9 @@ pub(crate) fn condition(
 ) -> Result<Option<NodeId>, NoMemory>
     requires node { Is u.now is_expression a }
     requires opened { IsOpen into.old s.old }
-    ensures there { IfOk result (λ r. IfSome r (IsExpression into.new)) }
-    ensures moves { IfOk result (λ r. IfSome r (λ n. Moves into.old s.old into.new s.new)) }
-    ensures typed { IfOk result (λ r. after_node t.now.texts false s.new into.new r ≡ condition (expression_of u.now.forest a) (state_of t.now.texts false s.old into.old)) }
+    ensures there { IfAnswered result (IsExpression into.new) }
+    ensures moves { IfAnswered result (λ n. Moves into.old s.old into.new s.new) }
+    ensures typed { IfOk result (λ r. after_node t.now.texts false s.new into.new r ≡ condition (expression_of u.now.forest a) (state_in t.now.texts s.old into.old)) }
 {
     let Some(value) = value_of(u, t, s, into, a)? else {
         return Ok(None);
@@ -85,9 +85,9 @@ pub(crate) fn optional_value(
 ) -> Result<Option<Option<NodeId>>, NoMemory>
     requires node { IsOptionalOf u.now is_expression a }
     requires opened { IsOpen into.old s.old }
-    ensures there { IfOk result (λ r. IfSome r (IsOptional into.new)) }
-    ensures moves { IfOk result (λ r. IfSome r (λ n. Moves into.old s.old into.new s.new)) }
-    ensures typed { IfOk result (λ r. optional_if t.now.texts s.new into.new r ≡ expression_if_any taken_value (optional_at u.now.forest a) (state_of t.now.texts false s.old into.old)) }
+    ensures there { IfAnswered result (IsOptional into.new) }
+    ensures moves { IfAnswered result (λ n. Moves into.old s.old into.new s.new) }
+    ensures typed { IfOk result (λ r. optional_if t.now.texts s.new into.new r ≡ expression_if_any taken_value (optional_at u.now.forest a) (state_in t.now.texts s.old into.old)) }
 {
     let Some(node) = a else {
         return Ok(Some(None));
@@ -108,9 +108,9 @@ pub(crate) fn optional_condition(
 ) -> Result<Option<Option<NodeId>>, NoMemory>
     requires node { IsOptionalOf u.now is_expression a }
     requires opened { IsOpen into.old s.old }
-    ensures there { IfOk result (λ r. IfSome r (IsOptional into.new)) }
-    ensures moves { IfOk result (λ r. IfSome r (λ n. Moves into.old s.old into.new s.new)) }
-    ensures typed { IfOk result (λ r. optional_if t.now.texts s.new into.new r ≡ expression_if_any condition (optional_at u.now.forest a) (state_of t.now.texts false s.old into.old)) }
+    ensures there { IfAnswered result (IsOptional into.new) }
+    ensures moves { IfAnswered result (λ n. Moves into.old s.old into.new s.new) }
+    ensures typed { IfOk result (λ r. optional_if t.now.texts s.new into.new r ≡ expression_if_any condition (optional_at u.now.forest a) (state_in t.now.texts s.old into.old)) }
 {
     let Some(node) = a else {
         return Ok(Some(None));
@@ -131,9 +131,9 @@ fn assigned(
     requires opened { IsOpen into.old s.now }
     requires known { wanted.0 < length into.old.known.terms }
     requires node { IsExpression into.old a }
-    ensures there { IfOk result (λ r. IfSome r (IsExpression into.new)) }
+    ensures there { IfAnswered result (IsExpression into.new) }
     ensures moves { OnOk result (Moves into.old s.now into.new s.now) }
-    ensures state { OnOk result ((texts : List (List ℕ)) → state_of texts false s.now into.new ≡ state_of texts false s.now into.old) }
+    ensures state { OnOk result (KeepsState s.now into.old into.new) }
     ensures typed { IfOk result (λ r. expression_if into.new r ≡ as_if_assigned (tree into.old.known wanted.0) (expression_at into.old a)) }
 {
     let null = is_null_constant(into, a);
@@ -150,9 +150,9 @@ pub(crate) fn nothing_returned(
 ) -> Result<Option<NodeId>, NoMemory>
     requires opened { IsOpen into.old s.now }
     requires known { returned.0 < length into.old.known.terms }
-    ensures there { IfOk result (λ r. IfSome r (IsStatement into.new)) }
-    ensures moves { IfOk result (λ r. IfSome r (λ n. Moves into.old s.now into.new s.now)) }
-    ensures typed { IfOk result (λ r. (texts : List (List ℕ)) → stated_if texts s.now into.new r ≡ nothing_returned (tree into.old.known returned.0) line (state_of texts false s.now into.old)) }
+    ensures there { IfAnswered result (IsStatement into.new) }
+    ensures moves { IfAnswered result (λ n. Moves into.old s.now into.new s.now) }
+    ensures typed { IfOk result (λ r. (texts : Texts) → stated_if texts s.now into.new r ≡ nothing_returned (tree into.old.known returned.0) line (state_in texts s.now into.old)) }
 {
     if is_void(into.types(), returned) {
         let made = add(s, into, TypedStmt::Return(None), line, &[])?;
@@ -173,9 +173,9 @@ fn converted_returned(
     requires opened { IsOpen into.old s.now }
     requires known { returned.0 < length into.old.known.terms }
     requires node { IsExpression into.old value }
-    ensures there { IfOk result (λ r. IfSome r (IsStatement into.new)) }
-    ensures moves { IfOk result (λ r. IfSome r (λ n. Moves into.old s.now into.new s.now)) }
-    ensures typed { IfOk result (λ r. (texts : List (List ℕ)) → stated_if texts s.now into.new r ≡ value_returned (tree into.old.known returned.0) line (value_in texts s.now into.old value)) }
+    ensures there { IfAnswered result (IsStatement into.new) }
+    ensures moves { IfAnswered result (λ n. Moves into.old s.now into.new s.now) }
+    ensures typed { IfOk result (λ r. (texts : Texts) → stated_if texts s.now into.new r ≡ value_returned (tree into.old.known returned.0) line (value_in texts s.now into.old value)) }
 {
     if is_void(into.types(), returned) {
         return Ok(None);
@@ -200,9 +200,9 @@ pub(crate) fn value_returned(
     requires node { Is u.now is_expression a }
     requires opened { IsOpen into.old s.old }
     requires known { returned.0 < length into.old.known.terms }
-    ensures there { IfOk result (λ r. IfSome r (IsStatement into.new)) }
-    ensures moves { IfOk result (λ r. IfSome r (λ n. Moves into.old s.old into.new s.new)) }
-    ensures typed { IfOk result (λ r. stated_if t.now.texts s.new into.new r ≡ and_then (taken_value (expression_of u.now.forest a) (state_of t.now.texts false s.old into.old)) (value_returned (tree into.old.known returned.0) line)) }
+    ensures there { IfAnswered result (IsStatement into.new) }
+    ensures moves { IfAnswered result (λ n. Moves into.old s.old into.new s.new) }
+    ensures typed { IfOk result (λ r. stated_if t.now.texts s.new into.new r ≡ and_then (taken_value (expression_of u.now.forest a) (state_in t.now.texts s.old into.old)) (value_returned (tree into.old.known returned.0) line)) }
 {
     let Some(value) = value_of(u, t, s, into, a)? else {
         return Ok(None);
@@ -227,9 +227,9 @@ fn promoted(
 ) -> Result<Option<Controlling>, NoMemory>
     requires opened { IsOpen into.old s.now }
     requires node { IsExpression into.old found }
-    ensures there { IfOk result (λ r. IfSome r (λ x. IsExpression into.new x.value)) }
+    ensures there { IfAnswered result (λ x. IsExpression into.new x.value) }
     ensures moves { OnOk result (Moves into.old s.now into.new s.now) }
-    ensures typed { IfOk result (λ r. (texts : List (List ℕ)) → switched_if texts s.now into.new r ≡ switched_by (record { value = expression_at into.old found; state = state_of texts false s.now into.old })) }
+    ensures typed { IfOk result (λ r. (texts : Texts) → switched_if texts s.now into.new r ≡ switched_by (record { value = expression_at into.old found; state = state_in texts s.now into.old })) }
 {
     let value = promoted_value(into, found)?;
     let Some(kind) = kind_of(into.types(), into.type_of(value)) else {
@@ -248,9 +248,9 @@ pub(crate) fn switched(
 ) -> Result<Option<Controlling>, NoMemory>
     requires node { Is u.now is_expression a }
     requires opened { IsOpen into.old s.old }
-    ensures there { IfOk result (λ r. IfSome r (λ x. IsExpression into.new x.value)) }
-    ensures moves { IfOk result (λ r. IfSome r (λ x. Moves into.old s.old into.new s.new)) }
-    ensures typed { IfOk result (λ r. switched_if t.now.texts s.new into.new r ≡ switch_value (expression_of u.now.forest a) (state_of t.now.texts false s.old into.old)) }
+    ensures there { IfAnswered result (λ x. IsExpression into.new x.value) }
+    ensures moves { IfAnswered result (λ x. Moves into.old s.old into.new s.new) }
+    ensures typed { IfOk result (λ r. switched_if t.now.texts s.new into.new r ≡ switch_value (expression_of u.now.forest a) (state_in t.now.texts s.old into.old)) }
 {
     let Some(found) = value_of(u, t, s, into, a)? else {
         return Ok(None);

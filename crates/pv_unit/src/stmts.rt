@@ -1,10 +1,10 @@
 //! Typing statements (C17 6.8).
-ghost use Rattle.std.specs.Prelude.{false, ◌≡◌, [], ◌<◌, true, length, IfOk, IfSome, OnOk};
+ghost use Rattle.std.specs.Prelude.{false, ◌≡◌, [], ◌<◌, true, length, IfOk, OnOk};
 ghost use Rattle.pv_tree.specs.Tables.{expression_at as expression_of, statement_at as statement_of, tree_at, trees_at, is_expression, is_statement, is_declaration, is_item, Is, HasList, Has, IsOptionalOf};
 ghost use Rattle.pv_tree.specs.Syntax.{Block, If, IfElse, While, DoWhile, Switch, Labelled};
 ghost use Rattle.pv_tree.specs.TreeLines.{tree_line};
 ghost use Rattle.pv_typed.specs.NodeTrees.{statement_at, IsStatement};
-ghost use Rattle.pv_check.specs.Open.{state_of, IsOpen};
+ghost use Rattle.pv_check.specs.Open.{IsOpen, state_in, IfAnswered};
 ghost use Rattle.pv_unit.specs.TypedStatements.{typed_statement, typed_items, typed_item, switch_block};
 ghost use Rattle.pv_unit.specs.Scoped.{inner, scoped_statement, has_scope, switch_body};
 ghost use Rattle.pv_unit.specs.Stated.{around_in, stated_if, items_in, items_if, AreStatements, StatementsOn, Moves, MovesOn};
@@ -40,9 +40,9 @@ fn inner(
     requires node { Is u.now is_statement n }
     requires opened { IsOpen into.old s.old }
     requires known { w.result.0 < length into.old.known.terms }
-    ensures there { IfOk result (λ r. IfSome r (IsStatement into.new)) }
-    ensures moves { IfOk result (λ r. IfSome r (λ n. Moves into.old s.old into.new s.new)) }
-    ensures typed { IfOk result (λ r. stated_if t.now.texts s.new into.new r ≡ inner (around_in into.old.known w) (statement_of u.now.forest n) (state_of t.now.texts false s.old into.old)) }
+    ensures there { IfAnswered result (IsStatement into.new) }
+    ensures moves { IfAnswered result (λ n. Moves into.old s.old into.new s.new) }
+    ensures typed { IfOk result (λ r. stated_if t.now.texts s.new into.new r ≡ inner (around_in into.old.known w) (statement_of u.now.forest n) (state_in t.now.texts s.old into.old)) }
 {
     enter(s, into)?;
     let Some(made) = statement(u, t, s, into, w, n)? else {
@@ -70,9 +70,9 @@ fn if_statement(
     requires is { statement_of u.now.forest n ≡ If (tree_line (tree_at u.now.forest n)) (expression_of u.now.forest a) (statement_of u.now.forest body) }
     requires opened { IsOpen into.old s.old }
     requires known { w.result.0 < length into.old.known.terms }
-    ensures there { IfOk result (λ r. IfSome r (IsStatement into.new)) }
-    ensures moves { IfOk result (λ r. IfSome r (λ n. Moves into.old s.old into.new s.new)) }
-    ensures typed { IfOk result (λ r. stated_if t.now.texts s.new into.new r ≡ scoped_statement (around_in into.old.known w) (statement_of u.now.forest n) (state_of t.now.texts false s.old into.old)) }
+    ensures there { IfAnswered result (IsStatement into.new) }
+    ensures moves { IfAnswered result (λ n. Moves into.old s.old into.new s.new) }
+    ensures typed { IfOk result (λ r. stated_if t.now.texts s.new into.new r ≡ scoped_statement (around_in into.old.known w) (statement_of u.now.forest n) (state_in t.now.texts s.old into.old)) }
 {
     let Some(value) = condition(u, t, s, into, a)? else {
         return Ok(None);
@@ -104,9 +104,9 @@ fn else_statement(
     requires is { statement_of u.now.forest n ≡ IfElse (tree_line (tree_at u.now.forest n)) (expression_of u.now.forest a) (statement_of u.now.forest body) (statement_of u.now.forest other) }
     requires opened { IsOpen into.old s.old }
     requires known { w.result.0 < length into.old.known.terms }
-    ensures there { IfOk result (λ r. IfSome r (IsStatement into.new)) }
-    ensures moves { IfOk result (λ r. IfSome r (λ n. Moves into.old s.old into.new s.new)) }
-    ensures typed { IfOk result (λ r. stated_if t.now.texts s.new into.new r ≡ scoped_statement (around_in into.old.known w) (statement_of u.now.forest n) (state_of t.now.texts false s.old into.old)) }
+    ensures there { IfAnswered result (IsStatement into.new) }
+    ensures moves { IfAnswered result (λ n. Moves into.old s.old into.new s.new) }
+    ensures typed { IfOk result (λ r. stated_if t.now.texts s.new into.new r ≡ scoped_statement (around_in into.old.known w) (statement_of u.now.forest n) (state_in t.now.texts s.old into.old)) }
 {
     let Some(value) = condition(u, t, s, into, a)? else {
         return Ok(None);
@@ -145,9 +145,9 @@ fn while_statement(
     requires is { statement_of u.now.forest n ≡ While (tree_line (tree_at u.now.forest n)) (expression_of u.now.forest a) (statement_of u.now.forest body) }
     requires opened { IsOpen into.old s.old }
     requires known { w.result.0 < length into.old.known.terms }
-    ensures there { IfOk result (λ r. IfSome r (IsStatement into.new)) }
-    ensures moves { IfOk result (λ r. IfSome r (λ n. Moves into.old s.old into.new s.new)) }
-    ensures typed { IfOk result (λ r. stated_if t.now.texts s.new into.new r ≡ scoped_statement (around_in into.old.known w) (statement_of u.now.forest n) (state_of t.now.texts false s.old into.old)) }
+    ensures there { IfAnswered result (IsStatement into.new) }
+    ensures moves { IfAnswered result (λ n. Moves into.old s.old into.new s.new) }
+    ensures typed { IfOk result (λ r. stated_if t.now.texts s.new into.new r ≡ scoped_statement (around_in into.old.known w) (statement_of u.now.forest n) (state_in t.now.texts s.old into.old)) }
 {
     let Some(value) = condition(u, t, s, into, a)? else {
         return Ok(None);
@@ -182,9 +182,9 @@ fn do_statement(
     requires is { statement_of u.now.forest n ≡ DoWhile (tree_line (tree_at u.now.forest n)) (statement_of u.now.forest body) (expression_of u.now.forest a) }
     requires opened { IsOpen into.old s.old }
     requires known { w.result.0 < length into.old.known.terms }
-    ensures there { IfOk result (λ r. IfSome r (IsStatement into.new)) }
-    ensures moves { IfOk result (λ r. IfSome r (λ n. Moves into.old s.old into.new s.new)) }
-    ensures typed { IfOk result (λ r. stated_if t.now.texts s.new into.new r ≡ scoped_statement (around_in into.old.known w) (statement_of u.now.forest n) (state_of t.now.texts false s.old into.old)) }
+    ensures there { IfAnswered result (IsStatement into.new) }
+    ensures moves { IfAnswered result (λ n. Moves into.old s.old into.new s.new) }
+    ensures typed { IfOk result (λ r. stated_if t.now.texts s.new into.new r ≡ scoped_statement (around_in into.old.known w) (statement_of u.now.forest n) (state_in t.now.texts s.old into.old)) }
 {
     let around = Place {
         result: w.result,
@@ -223,9 +223,9 @@ fn for_statement(
     requires is { IsFor u.now.forest n first a step body }
     requires opened { IsOpen into.old s.old }
     requires known { w.result.0 < length into.old.known.terms }
-    ensures there { IfOk result (λ r. IfSome r (IsStatement into.new)) }
-    ensures moves { IfOk result (λ r. IfSome r (λ n. Moves into.old s.old into.new s.new)) }
-    ensures typed { IfOk result (λ r. stated_if t.now.texts s.new into.new r ≡ scoped_statement (around_in into.old.known w) (statement_of u.now.forest n) (state_of t.now.texts false s.old into.old)) }
+    ensures there { IfAnswered result (IsStatement into.new) }
+    ensures moves { IfAnswered result (λ n. Moves into.old s.old into.new s.new) }
+    ensures typed { IfOk result (λ r. stated_if t.now.texts s.new into.new r ≡ scoped_statement (around_in into.old.known w) (statement_of u.now.forest n) (state_in t.now.texts s.old into.old)) }
 {
     let Some(begin) = optional_value(u, t, s, into, first)? else {
         return Ok(None);
@@ -276,9 +276,9 @@ fn for_declaration(
     requires is { IsForDeclaration u.now.forest n declaration a step body }
     requires opened { IsOpen into.old s.old }
     requires known { w.result.0 < length into.old.known.terms }
-    ensures there { IfOk result (λ r. IfSome r (IsStatement into.new)) }
-    ensures moves { IfOk result (λ r. IfSome r (λ n. Moves into.old s.old into.new s.new)) }
-    ensures typed { IfOk result (λ r. stated_if t.now.texts s.new into.new r ≡ scoped_statement (around_in into.old.known w) (statement_of u.now.forest n) (state_of t.now.texts false s.old into.old)) }
+    ensures there { IfAnswered result (IsStatement into.new) }
+    ensures moves { IfAnswered result (λ n. Moves into.old s.old into.new s.new) }
+    ensures typed { IfOk result (λ r. stated_if t.now.texts s.new into.new r ≡ scoped_statement (around_in into.old.known w) (statement_of u.now.forest n) (state_in t.now.texts s.old into.old)) }
 {
     let mut items = Vec::new(s.allocator());
     if !first_declared(u, t, s, into, declaration, &mut items)? {
@@ -318,9 +318,9 @@ fn block_statement(
     requires is { statement_of u.now.forest n ≡ Block (tree_line (tree_at u.now.forest n)) (trees_at u.now.forest list) }
     requires opened { IsOpen into.old s.old }
     requires known { w.result.0 < length into.old.known.terms }
-    ensures there { IfOk result (λ r. IfSome r (IsStatement into.new)) }
-    ensures moves { IfOk result (λ r. IfSome r (λ n. Moves into.old s.old into.new s.new)) }
-    ensures typed { IfOk result (λ r. stated_if t.now.texts s.new into.new r ≡ scoped_statement (around_in into.old.known w) (statement_of u.now.forest n) (state_of t.now.texts false s.old into.old)) }
+    ensures there { IfAnswered result (IsStatement into.new) }
+    ensures moves { IfAnswered result (λ n. Moves into.old s.old into.new s.new) }
+    ensures typed { IfOk result (λ r. stated_if t.now.texts s.new into.new r ≡ scoped_statement (around_in into.old.known w) (statement_of u.now.forest n) (state_in t.now.texts s.old into.old)) }
 {
     let mut items = Vec::new(s.allocator());
     if !all_items(u, t, s, into, w, n, list, &mut items)? {
@@ -379,7 +379,7 @@ pub(crate) fn all_items(
     requires empty { items.old.items ≡ [] }
     ensures there { IfOk result (StatementsOn into.new items.new.items) }
     ensures moves { IfOk result (MovesOn into.old s.old into.new s.new) }
-    ensures typed { IfOk result (λ b. items_if t.now.texts s.new into.new items.new.items b ≡ typed_items (around_in into.old.known w) (trees_at u.now.forest list) (state_of t.now.texts false s.old into.old)) }
+    ensures typed { IfOk result (λ b. items_if t.now.texts s.new into.new items.new.items b ≡ typed_items (around_in into.old.known w) (trees_at u.now.forest list) (state_in t.now.texts s.old into.old)) }
 {
     let nodes = u.list(list);
     for node in nodes {
@@ -411,10 +411,10 @@ fn under_labels(
     requires known { w.result.0 < length into.old.known.terms }
     requires same { HasKeys labels.old }
     requires is { statement_of u.now.forest n ≡ Labelled (tree_line (tree_at u.now.forest n)) (trees_at u.now.forest list) (statement_of u.now.forest body) }
-    ensures there { IfOk result (λ r. IfSome r (IsStatement into.new)) }
+    ensures there { IfAnswered result (IsStatement into.new) }
     ensures same { OnOk result (HasKeys labels.new) }
-    ensures moves { IfOk result (λ r. IfSome r (λ n. Moves into.old s.old into.new s.new)) }
-    ensures typed { IfOk result (λ r. marked_if t.now.texts s.new into.new labels.new.all.items r ≡ labelled_statement_at u.now into.old w kind n (labels_of labels.old.all.items) (state_of t.now.texts false s.old into.old)) }
+    ensures moves { IfAnswered result (λ n. Moves into.old s.old into.new s.new) }
+    ensures typed { IfOk result (λ r. marked_if t.now.texts s.new into.new labels.new.all.items r ≡ labelled_statement_at u.now into.old w kind n (labels_of labels.old.all.items) (state_in t.now.texts s.old into.old)) }
 {
     let before = labels.all.len();
     if !all_labels(u, t, s, into, kind, list, labels)? {
@@ -443,10 +443,10 @@ fn labelled(
     requires opened { IsOpen into.old s.old }
     requires known { w.result.0 < length into.old.known.terms }
     requires same { HasKeys labels.old }
-    ensures there { IfOk result (λ r. IfSome r (IsStatement into.new)) }
+    ensures there { IfAnswered result (IsStatement into.new) }
     ensures same { OnOk result (HasKeys labels.new) }
-    ensures moves { IfOk result (λ r. IfSome r (λ n. Moves into.old s.old into.new s.new)) }
-    ensures typed { IfOk result (λ r. marked_if t.now.texts s.new into.new labels.new.all.items r ≡ labelled_statement_at u.now into.old w kind n (labels_of labels.old.all.items) (state_of t.now.texts false s.old into.old)) }
+    ensures moves { IfAnswered result (λ n. Moves into.old s.old into.new s.new) }
+    ensures typed { IfOk result (λ r. marked_if t.now.texts s.new into.new labels.new.all.items r ≡ labelled_statement_at u.now into.old w kind n (labels_of labels.old.all.items) (state_in t.now.texts s.old into.old)) }
 {
     match labelled_parts(u, n) {
         Some((list, body)) => under_labels(u, t, s, into, w, kind, n, list, body, labels),
@@ -514,7 +514,7 @@ fn switch_items(
     requires same { HasKeys labels.old }
     ensures there { IfOk result (StatementsOn into.new items.new.items) }
     ensures moves { IfOk result (MovesOn into.old s.old into.new s.new) }
-    ensures typed { IfOk result (λ b. body_if t.now.texts s.new into.new items.new.items labels.new.all.items b ≡ switch_items_at u.now into.old w kind list (state_of t.now.texts false s.old into.old)) }
+    ensures typed { IfOk result (λ b. body_if t.now.texts s.new into.new items.new.items labels.new.all.items b ≡ switch_items_at u.now into.old w kind list (state_in t.now.texts s.old into.old)) }
 {
     let nodes = u.list(list);
     for node in nodes {
@@ -539,9 +539,9 @@ fn switch_body(
     requires node { Is u.now is_statement n }
     requires opened { IsOpen into.old s.old }
     requires known { w.result.0 < length into.old.known.terms }
-    ensures there { IfOk result (λ r. IfSome r (IsStatement into.new)) }
-    ensures moves { IfOk result (λ r. IfSome r (λ n. Moves into.old s.old into.new s.new)) }
-    ensures typed { IfOk result (λ r. stated_if t.now.texts s.new into.new r ≡ switch_body (around_in into.old.known w) kind (statement_of u.now.forest n) (state_of t.now.texts false s.old into.old)) }
+    ensures there { IfAnswered result (IsStatement into.new) }
+    ensures moves { IfAnswered result (λ n. Moves into.old s.old into.new s.new) }
+    ensures typed { IfOk result (λ r. stated_if t.now.texts s.new into.new r ≡ switch_body (around_in into.old.known w) kind (statement_of u.now.forest n) (state_in t.now.texts s.old into.old)) }
 {
     let Some(list) = block_items(u, n) else {
         return Ok(None);
@@ -585,9 +585,9 @@ fn switch_block(
     requires node { Is u.now is_statement n }
     requires opened { IsOpen into.old s.old }
     requires known { w.result.0 < length into.old.known.terms }
-    ensures there { IfOk result (λ r. IfSome r (IsStatement into.new)) }
-    ensures moves { IfOk result (λ r. IfSome r (λ n. Moves into.old s.old into.new s.new)) }
-    ensures typed { IfOk result (λ r. stated_if t.now.texts s.new into.new r ≡ switch_block (around_in into.old.known w) kind (statement_of u.now.forest n) (state_of t.now.texts false s.old into.old)) }
+    ensures there { IfAnswered result (IsStatement into.new) }
+    ensures moves { IfAnswered result (λ n. Moves into.old s.old into.new s.new) }
+    ensures typed { IfOk result (λ r. stated_if t.now.texts s.new into.new r ≡ switch_block (around_in into.old.known w) kind (statement_of u.now.forest n) (state_in t.now.texts s.old into.old)) }
 {
     enter(s, into)?;
     let Some(made) = switch_body(u, t, s, into, w, kind, n)? else {
@@ -615,9 +615,9 @@ fn switch_statement(
     requires is { statement_of u.now.forest n ≡ Switch (tree_line (tree_at u.now.forest n)) (expression_of u.now.forest a) (statement_of u.now.forest body) }
     requires opened { IsOpen into.old s.old }
     requires known { w.result.0 < length into.old.known.terms }
-    ensures there { IfOk result (λ r. IfSome r (IsStatement into.new)) }
-    ensures moves { IfOk result (λ r. IfSome r (λ n. Moves into.old s.old into.new s.new)) }
-    ensures typed { IfOk result (λ r. stated_if t.now.texts s.new into.new r ≡ scoped_statement (around_in into.old.known w) (statement_of u.now.forest n) (state_of t.now.texts false s.old into.old)) }
+    ensures there { IfAnswered result (IsStatement into.new) }
+    ensures moves { IfAnswered result (λ n. Moves into.old s.old into.new s.new) }
+    ensures typed { IfOk result (λ r. stated_if t.now.texts s.new into.new r ≡ scoped_statement (around_in into.old.known w) (statement_of u.now.forest n) (state_in t.now.texts s.old into.old)) }
 {
     let Some(controlling) = switched(u, t, s, into, a)? else {
         return Ok(None);
@@ -648,9 +648,9 @@ fn scoped(
     requires node { Is u.now is_statement n }
     requires opened { IsOpen into.old s.old }
     requires known { w.result.0 < length into.old.known.terms }
-    ensures there { IfOk result (λ r. IfSome r (IsStatement into.new)) }
-    ensures moves { IfOk result (λ r. IfSome r (λ n. Moves into.old s.old into.new s.new)) }
-    ensures typed { IfOk result (λ r. stated_if t.now.texts s.new into.new r ≡ scoped_statement (around_in into.old.known w) (statement_of u.now.forest n) (state_of t.now.texts false s.old into.old)) }
+    ensures there { IfAnswered result (IsStatement into.new) }
+    ensures moves { IfAnswered result (λ n. Moves into.old s.old into.new s.new) }
+    ensures typed { IfOk result (λ r. stated_if t.now.texts s.new into.new r ≡ scoped_statement (around_in into.old.known w) (statement_of u.now.forest n) (state_in t.now.texts s.old into.old)) }
 {
     match u.stmt(n) {
         Stmt::Block(list) => block_statement(u, t, s, into, w, n, list),
@@ -696,9 +696,9 @@ fn in_scope(
     requires scope { has_scope (statement_of u.now.forest n) ≡ true }
     requires opened { IsOpen into.old s.old }
     requires known { w.result.0 < length into.old.known.terms }
-    ensures there { IfOk result (λ r. IfSome r (IsStatement into.new)) }
-    ensures moves { IfOk result (λ r. IfSome r (λ n. Moves into.old s.old into.new s.new)) }
-    ensures typed { IfOk result (λ r. stated_if t.now.texts s.new into.new r ≡ typed_statement (around_in into.old.known w) (statement_of u.now.forest n) (state_of t.now.texts false s.old into.old)) }
+    ensures there { IfAnswered result (IsStatement into.new) }
+    ensures moves { IfAnswered result (λ n. Moves into.old s.old into.new s.new) }
+    ensures typed { IfOk result (λ r. stated_if t.now.texts s.new into.new r ≡ typed_statement (around_in into.old.known w) (statement_of u.now.forest n) (state_in t.now.texts s.old into.old)) }
 {
     enter(s, into)?;
     let Some(made) = scoped(u, t, s, into, w, n)? else {
@@ -721,9 +721,9 @@ fn statement(
     requires node { Is u.now is_statement n }
     requires opened { IsOpen into.old s.old }
     requires known { w.result.0 < length into.old.known.terms }
-    ensures there { IfOk result (λ r. IfSome r (IsStatement into.new)) }
-    ensures moves { IfOk result (λ r. IfSome r (λ n. Moves into.old s.old into.new s.new)) }
-    ensures typed { IfOk result (λ r. stated_if t.now.texts s.new into.new r ≡ typed_statement (around_in into.old.known w) (statement_of u.now.forest n) (state_of t.now.texts false s.old into.old)) }
+    ensures there { IfAnswered result (IsStatement into.new) }
+    ensures moves { IfAnswered result (λ n. Moves into.old s.old into.new s.new) }
+    ensures typed { IfOk result (λ r. stated_if t.now.texts s.new into.new r ≡ typed_statement (around_in into.old.known w) (statement_of u.now.forest n) (state_in t.now.texts s.old into.old)) }
 {
     match u.stmt(n) {
         Stmt::Block(_)
