@@ -1,6 +1,7 @@
 //! The top call: what one call of the program does from its words to its status.
-ghost use Rattle.std.specs.Prelude.{◌≡◌, ◌⊎◌, ◌≤◌, ◌∷◌, [], ℕ, List, Some, IsNone};
+ghost use Rattle.std.specs.Prelude.{◌≡◌, ◌⊎◌, ◌≤◌, ◌∷◌, [], Some, IsNone};
 ghost use Rattle.pv_script.specs.Calm.{calm_held, calm_written};
+ghost use Rattle.pv_script.specs.Outside.{HoldTheSame};
 ghost use Rattle.pv_watch.specs.Slots.{Present};
 ghost use Rattle.pv_explain.specs.Texts.{journal_kind};
 ghost use Rattle.pv_exec.specs.Outlets.{hall_slots};
@@ -52,7 +53,7 @@ pub fn replay<F: Files, R: Sink>(
 
     // What `write` writes of a run `check` accepts.
     ensures accepted { WritesJournals (job (texts words.now)) (F.held files.old) (sink_change R.written R.faults report.old report.new) result }
-    ensures files_same { (n : List ℕ) → F.held files.new n ≡ F.held files.old n }
+    ensures files_same { HoldTheSame F.held files.old files.new }
 
     // Where the words are no job, no file is read.
     ensures unread { IsNone (job (texts words.now)) → files.new ≡ files.old }
@@ -76,7 +77,7 @@ fn write_journal<F: Files, R: Sink>(
     requires hall { hall_slots hall.old its_kind its_wants seen ≡ Present journal_kind 65536 [] ∷ [] }
     ensures served { JobServed (Write (run_job run.entry)) (F.held files.old) (F.faults files.old) (F.faults files.new)
         (sink_change R.written R.faults report.old report.new) result }
-    ensures files_same { (n : List ℕ) → F.held files.new n ≡ F.held files.old n }
+    ensures files_same { HoldTheSame F.held files.old files.new }
 {
     match read_job(alloc, files, run.file, run.script) {
         Err(ReadError::NoMemory) => NO_MEMORY,
@@ -108,7 +109,7 @@ fn write_text<R: Sink>(
 fn check_journal<F: Files, R: Sink>(alloc: Global, name: &str, files: &mut F, report: &mut R) -> u8
     ensures served { JobServed (Check name.now) (F.held files.old) (F.faults files.old) (F.faults files.new)
         (sink_change R.written R.faults report.old report.new) result }
-    ensures files_same { (n : List ℕ) → F.held files.new n ≡ F.held files.old n }
+    ensures files_same { HoldTheSame F.held files.old files.new }
 {
     match read_all(alloc, files, name, JOURNAL_LIMIT) {
         Err(ReadError::NoMemory) => NO_MEMORY,

@@ -5,6 +5,7 @@ ghost use Rattle.pv_serve.specs.Judged.{script_limit};
 ghost use Rattle.pv_serve.specs.Answer.{script_held};
 ghost use Rattle.pv_serve.specs.Outside.{AnyRose};
 ghost use Rattle.pv_serve.specs.Serving.{AreRead};
+ghost use Rattle.pv_script.specs.Outside.{HoldTheSame};
 
 use crate::checking::SOURCE_LIMIT;
 use pv_script::{Files, ReadError, read_all};
@@ -31,7 +32,7 @@ pub fn read_job<F: Files>(
 ) -> Result<JobText, ReadError>
     ensures read { IfOk result (λ t. AreRead source.now (option_map (λ s. s.now) script.entry) (F.held files.old)
         t.source.items t.script.items) }
-    ensures same { (n : List ℕ) → F.held files.new n ≡ F.held files.old n }
+    ensures same { HoldTheSame F.held files.old files.new }
     ensures later { (n : List ℕ) → F.faults files.old n ≤ F.faults files.new n }
     ensures cause { IsErrOf result ReadError.Fault →
         AnyRose (files_named source.now (option_map (λ s. s.now) script.entry)) (F.faults files.old) (F.faults files.new) }
@@ -64,7 +65,7 @@ pub fn read_script<F: Files>(
 ) -> Result<Vec<u8>, ReadError>
     ensures read { IfOk result (λ v. IfSome (script_held (option_map (λ s. s.now) name.entry) (F.held files.old))
         (λ text. v.items ≡ take (script_limit + 1) text)) }
-    ensures same { (n : List ℕ) → F.held files.new n ≡ F.held files.old n }
+    ensures same { HoldTheSame F.held files.old files.new }
     ensures later { (n : List ℕ) → F.faults files.old n ≤ F.faults files.new n }
     ensures cause { IsErrOf result ReadError.Fault →
         AnyRose (option_to_list (option_map (λ s. s.now) name.entry)) (F.faults files.old) (F.faults files.new) }

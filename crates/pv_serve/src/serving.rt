@@ -1,5 +1,5 @@
 // The top call: what one call of the program does from its words to its status.
-ghost use Rattle.std.specs.Prelude.{◌≡◌, ◌⊎◌, ◌<◌, ◌≤◌, ⊤, ℕ, true, [], List, None, Some, IsNone, IfOk, OnOk};
+ghost use Rattle.std.specs.Prelude.{◌≡◌, ◌⊎◌, ◌<◌, ◌≤◌, ⊤, true, [], None, Some, IsNone, IfOk, OnOk};
 ghost use Rattle.std.specs.List.{filter};
 ghost use Rattle.pv_watch.specs.Slots.{is_kept};
 ghost use Rattle.pv_gen.specs.Source.{source_text};
@@ -13,6 +13,7 @@ ghost use Rattle.pv_serve.specs.Outside.{sink_change, halls};
 ghost use Rattle.pv_serve.specs.Causes.{Call, Served, IsAnswer};
 ghost use Rattle.pv_serve.specs.Serving.{Answered, FilesServed, HasStory, Reported, IsReportOn, kept_halls};
 ghost use Rattle.pv_script.specs.Calm.{calm_held, calm_written};
+ghost use Rattle.pv_script.specs.Outside.{HoldTheSame};
 
 use crate::NoMemory;
 use crate::judging::Judgement;
@@ -57,7 +58,7 @@ pub fn serve<F: Files, O: Sink, R: Sink>(
       hall = halls hall.old hall.new its_kind its_wants seen;
       status = result;
     } in Served call }
-    ensures files_same { (n : List ℕ) → F.held files.new n ≡ F.held files.old n }
+    ensures files_same { HoldTheSame F.held files.old files.new }
 
     // Where the words are no job, or a source is generated, no file is read.
     ensures unread { IsNone (file_job_of (texts words.now)) → files.new ≡ files.old }
@@ -125,7 +126,7 @@ fn run_files<F: Files, O: Sink, R: Sink>(
     ensures served { FilesServed (asked_job asked.entry) (F.held files.old) (F.faults files.old) (F.faults files.new)
         (sink_change O.written O.faults out.old out.new) (sink_change R.written R.faults report.old report.new)
         (halls hall.old hall.new its_kind its_wants seen) result }
-    ensures files_same { (n : List ℕ) → F.held files.new n ≡ F.held files.old n }
+    ensures files_same { HoldTheSame F.held files.old files.new }
 {
     match read_job(alloc, files, asked.file, asked.script) {
         Err(ReadError::NoMemory) => NO_MEMORY,

@@ -1,6 +1,7 @@
 //! The top call: what one call of the program does from its words to its status.
-ghost use Rattle.std.specs.Prelude.{◌≡◌, ◌⊎◌, ◌∷◌, [], ℕ, List, Some, IsNone};
+ghost use Rattle.std.specs.Prelude.{◌≡◌, ◌⊎◌, ◌∷◌, [], Some, IsNone};
 ghost use Rattle.pv_script.specs.Calm.{calm_held, calm_written};
+ghost use Rattle.pv_script.specs.Outside.{HoldTheSame};
 ghost use Rattle.pv_watch.specs.Slots.{Present};
 ghost use Rattle.pv_explain.specs.Texts.{journal_kind};
 ghost use Rattle.pv_exec.specs.Outlets.{hall_slots};
@@ -46,7 +47,7 @@ pub fn step<F: Files, R: Sink>(
       report = sink_change R.written R.faults report.old report.new;
       status = result;
     } in Replied service call }
-    ensures files_same { (n : List ℕ) → F.held files.new n ≡ F.held files.old n }
+    ensures files_same { HoldTheSame F.held files.old files.new }
 
     // Where the words are no job, no file is read.
     ensures unread { IsNone (job (texts words.now)) → files.new ≡ files.old }
@@ -68,7 +69,7 @@ fn step_files<F: Files, R: Sink>(
     requires hall { hall_slots hall.old its_kind its_wants seen ≡ Present journal_kind 18446744073709551615 [] ∷ [] }
     ensures served { JobServed (asked_job asked.entry) (F.held files.old) (F.faults files.old) (F.faults files.new)
         (sink_change R.written R.faults report.old report.new) result }
-    ensures files_same { (n : List ℕ) → F.held files.new n ≡ F.held files.old n }
+    ensures files_same { HoldTheSame F.held files.old files.new }
 {
     match read_files(alloc, asked, files) {
         Err(ReadError::NoMemory) => NO_MEMORY,

@@ -1,6 +1,6 @@
 //! The files that are asked for.
 ghost use Rattle.std.specs.Prelude.{◌≡◌, ◌≤◌, ℕ, List, take, IfOk, IfSome, IsErrOf};
-ghost use Rattle.pv_script.specs.Outside.{Rose};
+ghost use Rattle.pv_script.specs.Outside.{Rose, HoldTheSame};
 ghost use Rattle.pv_serve.specs.Outside.{AnyRose};
 ghost use Rattle.pv_step.specs.Words.{files_of};
 ghost use Rattle.pv_step.specs.ReadWords.{asked_job};
@@ -28,7 +28,7 @@ pub fn read_files<F: Files>(
     files: &mut F,
 ) -> Result<StepText, ReadError>
     ensures read { IfOk result (λ t. AreRead (asked_job asked.entry) (F.held files.old) t.source.items t.script.items t.commands.items) }
-    ensures same { (n : List ℕ) → F.held files.new n ≡ F.held files.old n }
+    ensures same { HoldTheSame F.held files.old files.new }
     ensures cause { IsErrOf result ReadError.Fault → AnyRose (files_of (asked_job asked.entry)) (F.faults files.old) (F.faults files.new) }
 {
     let source = match read_all(alloc, files, asked.file, SOURCE_LIMIT) {
@@ -52,7 +52,7 @@ pub fn read_files<F: Files>(
 // Reads the commands.
 fn read_commands<F: Files>(alloc: Global, name: &str, files: &mut F) -> Result<Vec<u8>, ReadError>
     ensures read { IfOk result (λ v. IfSome (F.held files.old name.now) (λ all. v.items ≡ take 65537 all)) }
-    ensures same { (n : List ℕ) → F.held files.new n ≡ F.held files.old n }
+    ensures same { HoldTheSame F.held files.old files.new }
     ensures later { (n : List ℕ) → F.faults files.old n ≤ F.faults files.new n }
     ensures cause { IsErrOf result ReadError.Fault → Rose (F.faults files.old name.now) (F.faults files.new name.now) }
 {

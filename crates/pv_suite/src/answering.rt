@@ -8,6 +8,7 @@ ghost use Rattle.pv_cases.specs.Views.{case_view, told_view, IsBounded};
 ghost use Rattle.pv_suite.specs.Answers.{AllTold, LongOutput, IsListReply, refused_by, reply_of};
 ghost use Rattle.pv_suite.specs.Causes.{case_files, list_files};
 ghost use Rattle.pv_suite.specs.Answering.{walked_view};
+ghost use Rattle.pv_script.specs.Outside.{HoldTheSame};
 
 use crate::error::Unanswered;
 use crate::walking::{Walked, walk};
@@ -22,7 +23,7 @@ const REFUSED: u8 = 16;
 /// Answers a list: runs its cases, if it has a reading.
 pub fn answer<F: Files>(alloc: Global, list: &[u8], files: &mut F) -> Result<Reply, Unanswered>
     ensures reply { IfOk result (λ r. IsListReply (cases_of list.now) (F.held files.old) (reply_view r)) }
-    ensures same { (n : List ℕ) → F.held files.new n ≡ F.held files.old n }
+    ensures same { HoldTheSame F.held files.old files.new }
     ensures later { (n : List ℕ) → F.faults files.old n ≤ F.faults files.new n }
     ensures cause { IsErrOf result Unanswered.Fault → AnyRose (list_files (cases_of list.now)) (F.faults files.old) (F.faults files.new) }
 {
@@ -40,7 +41,7 @@ fn answer_cases<F: Files>(
 ) -> Result<Reply, Unanswered>
     requires { All IsBounded cases.now }
     ensures reply { IfOk result (λ r. IsListReply (Ok (map case_view cases.now)) (F.held files.old) (reply_view r)) }
-    ensures same { (n : List ℕ) → F.held files.new n ≡ F.held files.old n }
+    ensures same { HoldTheSame F.held files.old files.new }
     ensures later { (n : List ℕ) → F.faults files.old n ≤ F.faults files.new n }
     ensures cause { IsErrOf result Unanswered.Fault →
         AnyRose (flat_map case_files (map case_view cases.now)) (F.faults files.old) (F.faults files.new) }

@@ -1,6 +1,7 @@
 //! The top call: what one call of the program does from its words to its status.
 ghost use Rattle.std.specs.Prelude.{◌≡◌, ◌≢◌, ◌⊎◌, ◌≤◌, ℕ, List, Some, IsNone};
 ghost use Rattle.pv_script.specs.Calm.{calm_held, calm_written};
+ghost use Rattle.pv_script.specs.Outside.{HoldTheSame};
 ghost use Rattle.pv_serve.specs.Words.{texts};
 ghost use Rattle.pv_serve.specs.Outside.{sink_change};
 ghost use Rattle.pv_serve.specs.Replies.{ReplyCall, Replied, SomeReply, IsReplied};
@@ -36,7 +37,7 @@ pub fn suite<F: Files, R: Sink>(
       report = sink_change R.written R.faults report.old report.new;
       status = result;
     } in Replied service call }
-    ensures files_same { (n : List ℕ) → F.held files.new n ≡ F.held files.old n }
+    ensures files_same { HoldTheSame F.held files.old files.new }
 
     // Where the words are no job, no file is read.
     ensures unread { IsNone (list_of (texts words.now)) → files.new ≡ files.old }
@@ -51,7 +52,7 @@ pub fn suite<F: Files, R: Sink>(
 fn suite_in<F: Files, R: Sink>(alloc: Global, name: &str, files: &mut F, report: &mut R) -> u8
     ensures served { ListServed name.now (F.held files.old) (F.faults files.old) (F.faults files.new)
         (sink_change R.written R.faults report.old report.new) result }
-    ensures files_same { (n : List ℕ) → F.held files.new n ≡ F.held files.old n }
+    ensures files_same { HoldTheSame F.held files.old files.new }
 {
     match read_all(alloc, files, name, LIST_LIMIT) {
         Err(ReadError::NoMemory) => NO_MEMORY,
@@ -64,7 +65,7 @@ fn suite_in<F: Files, R: Sink>(alloc: Global, name: &str, files: &mut F, report:
 fn suite_of<F: Files, R: Sink>(alloc: Global, list: &[u8], files: &mut F, report: &mut R) -> u8
     ensures served { ReadServed list.now (F.held files.old) (F.faults files.old) (F.faults files.new)
         (sink_change R.written R.faults report.old report.new) result }
-    ensures files_same { (n : List ℕ) → F.held files.new n ≡ F.held files.old n }
+    ensures files_same { HoldTheSame F.held files.old files.new }
     ensures later { (n : List ℕ) → F.faults files.old n ≤ F.faults files.new n }
 {
     match answer(alloc, list, files) {

@@ -1,6 +1,6 @@
 //! The files of a case.
 ghost use Rattle.std.specs.Prelude.{◌≡◌, ◌≤◌, ◌+◌, ℕ, nat_lt, List, length, take, option_map, Some, IfOk, IfSome, IsErrOf, option_to_list};
-ghost use Rattle.pv_script.specs.Outside.{Rose};
+ghost use Rattle.pv_script.specs.Outside.{Rose, HoldTheSame};
 ghost use Rattle.pv_serve.specs.Outside.{AnyRose};
 ghost use Rattle.pv_cases.specs.Views.{case_view};
 ghost use Rattle.pv_suite.specs.Answers.{given_of, is_long, output_held, output_limit};
@@ -31,7 +31,7 @@ pub fn read_case<F: Files>(
     files: &mut F,
 ) -> Result<CaseText, ReadError>
     ensures read { IfOk result (λ t. IsRead (given_of (case_view case.entry) (F.held files.old)) (text_view t)) }
-    ensures same { (n : List ℕ) → F.held files.new n ≡ F.held files.old n }
+    ensures same { HoldTheSame F.held files.old files.new }
     ensures later { (n : List ℕ) → F.faults files.old n ≤ F.faults files.new n }
     ensures cause { IsErrOf result ReadError.Fault → AnyRose (case_files (case_view case.entry)) (F.faults files.old) (F.faults files.new) }
 {
@@ -61,7 +61,7 @@ fn read_output<F: Files>(
 ) -> Result<Option<Vec<u8>>, ReadError>
     ensures read { IfOk result (λ o. IfSome (output_held (option_map (λ s. s.now) name.entry) (F.held files.old))
         (λ held. option_map (λ v. v.items) o ≡ option_map (λ all. take (output_limit + 1) all) held)) }
-    ensures same { (n : List ℕ) → F.held files.new n ≡ F.held files.old n }
+    ensures same { HoldTheSame F.held files.old files.new }
     ensures later { (n : List ℕ) → F.faults files.old n ≤ F.faults files.new n }
     ensures cause { IsErrOf result ReadError.Fault →
         AnyRose (option_to_list (option_map (λ s. s.now) name.entry)) (F.faults files.old) (F.faults files.new) }
@@ -79,7 +79,7 @@ fn read_some<F: Files>(
     files: &mut F,
 ) -> Result<Option<Vec<u8>>, ReadError>
     ensures read { IfOk result (λ o. IfSome (F.held files.old name.now) (λ all. option_map (λ v. v.items) o ≡ Some (take 1048577 all))) }
-    ensures same { (n : List ℕ) → F.held files.new n ≡ F.held files.old n }
+    ensures same { HoldTheSame F.held files.old files.new }
     ensures later { (n : List ℕ) → F.faults files.old n ≤ F.faults files.new n }
     ensures cause { IsErrOf result ReadError.Fault → Rose (F.faults files.old name.now) (F.faults files.new name.now) }
 {

@@ -6,6 +6,7 @@ ghost use Rattle.pv_cases.specs.Views.{case_view, IsBounded, told_view};
 ghost use Rattle.pv_suite.specs.Answers.{CasesCome, given_of};
 ghost use Rattle.pv_suite.specs.Causes.{case_files};
 ghost use Rattle.pv_suite.specs.Answering.{walked_view, IsCaseOf};
+ghost use Rattle.pv_script.specs.Outside.{HoldTheSame};
 
 use crate::error::Unanswered;
 use crate::files::{is_too_long, read_case};
@@ -31,7 +32,7 @@ pub fn walk<F: Files>(
 ) -> Result<Walked, Unanswered>
     requires { All IsBounded cases.now }
     ensures walked { IfOk result (λ w. CasesCome (F.held files.old) 1 (map case_view cases.now) (walked_view w)) }
-    ensures same { (n : List ℕ) → F.held files.new n ≡ F.held files.old n }
+    ensures same { HoldTheSame F.held files.old files.new }
     ensures later { (n : List ℕ) → F.faults files.old n ≤ F.faults files.new n }
     ensures cause { IsErrOf result Unanswered.Fault →
         AnyRose (flat_map case_files (map case_view cases.now)) (F.faults files.old) (F.faults files.new) }
@@ -71,7 +72,7 @@ fn walk_case<F: Files>(
 ) -> Result<Option<Told>, Unanswered>
     requires { IsBounded case }
     ensures told { IfOk result (λ o. IsCaseOf number (case_view case.entry) (given_of (case_view case.entry) (F.held files.old)) (option_map told_view o)) }
-    ensures same { (n : List ℕ) → F.held files.new n ≡ F.held files.old n }
+    ensures same { HoldTheSame F.held files.old files.new }
     ensures later { (n : List ℕ) → F.faults files.old n ≤ F.faults files.new n }
     ensures cause { IsErrOf result Unanswered.Fault →
         AnyRose (case_files (case_view case.entry)) (F.faults files.old) (F.faults files.new) }

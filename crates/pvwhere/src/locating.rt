@@ -1,6 +1,7 @@
 //! The top call: what one call of the program does from its words to its status.
-ghost use Rattle.std.specs.Prelude.{◌≡◌, ◌⊎◌, ℕ, List, Some, IsNone};
+ghost use Rattle.std.specs.Prelude.{◌≡◌, ◌⊎◌, Some, IsNone};
 ghost use Rattle.pv_script.specs.Calm.{calm_held, calm_written};
+ghost use Rattle.pv_script.specs.Outside.{HoldTheSame};
 ghost use Rattle.pv_serve.specs.Words.{texts};
 ghost use Rattle.pv_serve.specs.Outside.{sink_change};
 ghost use Rattle.pv_serve.specs.Replies.{ReplyCall, Replied, SomeReply, IsReplied};
@@ -34,7 +35,7 @@ pub fn locate<F: Files, O: Sink>(alloc: Global, words: &[String], files: &mut F,
       report = sink_change O.written O.faults out.old out.new;
       status = result;
     } in Replied service call }
-    ensures files_same { (n : List ℕ) → F.held files.new n ≡ F.held files.old n }
+    ensures files_same { HoldTheSame F.held files.old files.new }
 
     // Where the words are no job, no file is read.
     ensures unread { IsNone (file_of (texts words.now)) → files.new ≡ files.old }
@@ -49,7 +50,7 @@ pub fn locate<F: Files, O: Sink>(alloc: Global, words: &[String], files: &mut F,
 fn locate_in<F: Files, O: Sink>(alloc: Global, name: &str, files: &mut F, out: &mut O) -> u8
     ensures served { FileServed name.now (F.held files.old) (F.faults files.old) (F.faults files.new)
         (sink_change O.written O.faults out.old out.new) result }
-    ensures files_same { (n : List ℕ) → F.held files.new n ≡ F.held files.old n }
+    ensures files_same { HoldTheSame F.held files.old files.new }
 {
     match read_all(alloc, files, name, SOURCE_LIMIT) {
         Err(ReadError::NoMemory) => NO_MEMORY,
