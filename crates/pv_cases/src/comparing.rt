@@ -1,5 +1,5 @@
 // What is told of one case.
-ghost use Rattle.std.specs.Prelude.{◌≡◌, ◌++◌, ℕ, nat_eq, IfOk, Some, None, option_map, string_bytes};
+ghost use Rattle.std.specs.Prelude.{◌≡◌, ◌++◌, nat_eq, IfOk, Some, None, option_map};
 ghost use Rattle.std.specs.List.{common_prefix_len};
 ghost use Rattle.pv_cases.specs.Suites as specified;
 ghost use Rattle.pv_cases.specs.Views.{wanted_view, gave_view, told_view};

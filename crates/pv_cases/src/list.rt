@@ -1,5 +1,5 @@
 // Reading a list of cases.
-ghost use Rattle.std.specs.Prelude.{◌≡◌, ◌≢◌, ◌<◌, ◌≤◌, ℕ, List, map, option_map, IfSome, IfOk, All, Some, None, Ok, Err};
+ghost use Rattle.std.specs.Prelude.{◌≡◌, ◌<◌, map, option_map, IfSome, IfOk, All, Some, None, Ok, Err};
 ghost use Rattle.pv_cases.specs.Cases as specified;
 ghost use Rattle.pv_cases.specs.Views.{case_view, IsBounded, OrNoMemory};
 

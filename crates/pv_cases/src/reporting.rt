@@ -1,5 +1,5 @@
 // The report of a suite, and its status.
-ghost use Rattle.std.specs.Prelude.{◌≡◌, ◌++◌, ℕ, map, length, IfOk, OnOk, option_map, string_bytes};
+ghost use Rattle.std.specs.Prelude.{◌≡◌, ◌++◌, map, length, IfOk, OnOk, option_map};
 ghost use Rattle.std.specs.List.{flat_map};
 ghost use Rattle.pv_cases.specs.Suites as specified;
 ghost use Rattle.pv_cases.specs.Views.{told_view};

@@ -1,13 +1,11 @@
 //! Assignments (C17 6.5.16) and the comma (C17 6.5.17).
-ghost use Rattle.std.specs.Prelude.{◌≡◌, ◌<◌, IfOk, OnOk, length, Some, None, if◌then◌else◌};
+ghost use Rattle.std.specs.Prelude.{◌≡◌, ◌<◌, IfOk, OnOk, length, Some, None};
 ghost use Rattle.pv_types.specs.Known.{tree};
 ghost use Rattle.pv_typed.specs.TypedTree.{type_of, Assign, CompoundAssign, PointerAssign};
 ghost use Rattle.pv_typed.specs.NodeTrees.{expression_at, IsExpression};
 ghost use Rattle.pv_typed.specs.Known.{AreKnown};
 ghost use Rattle.pv_check.specs.Kept.{Kept, env_of, expression_if};
-ghost use Rattle.pv_types.specs.Ty.{IntTy};
-ghost use Rattle.pv_types.specs.Sorts.{bare_type};
-ghost use Rattle.pv_check.specs.Values.{source_node, conversion_to, may_point, may_assign};
+ghost use Rattle.pv_check.specs.Values.{may_point, may_assign};
 ghost use Rattle.pv_check.specs.ValueParts.{assigned_with};
 ghost use Rattle.pv_check.specs.Assignment.{compound_at, arithmetic_assign, shift_assign, comma_of};
 ghost use Rattle.pv_check.specs.AssignmentParts.{pointer_assign, assigned_to};

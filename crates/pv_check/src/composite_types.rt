@@ -1,7 +1,7 @@
 // The composite type of two compatible types (C17 6.2.7p3).
-ghost use Rattle.std.specs.Prelude.{◌≡◌, ◌<◌, ◌≤◌, Option, ℕ, length, IfOk, OnOk, IsTrue};
+ghost use Rattle.std.specs.Prelude.{◌≡◌, ◌<◌, ◌≤◌, Option, length, IfOk, OnOk, IsTrue};
 ghost use Rattle.pv_types.specs.Formed.{are_adjusted, AllBelow, parameters_at};
-ghost use Rattle.pv_types.specs.Known.{Known, tree, trees, tys_in};
+ghost use Rattle.pv_types.specs.Known.{tree, trees, tys_in};
 ghost use Rattle.pv_types.specs.Compatible.{are_compatible};
 ghost use Rattle.pv_types.specs.Matching.{Matches, MatchAll};
 ghost use Rattle.pv_check.specs.Composite.{composite_of, composites};

@@ -1,16 +1,15 @@
 // Members of structures and unions, and their completion (C17 6.7.2.1).
 ghost use Rattle.std.specs.Prelude.{◌≡◌, ◌&&◌, ◌<◌, ◌≤◌, ◌^◌, ◌++◌, ◌∷◌, [], Bool, List, Option, nat_le, length, map, IfOk, OnOk, IsTrue, Some, None};
-ghost use Rattle.pv_types.specs.Known.{tree, trees, env, named_in, heading_at};
+ghost use Rattle.pv_types.specs.Known.{tree, trees, env, named_in};
 ghost use Rattle.pv_types.specs.Formed.{members_in, MembersBelow, NamesDiffer, AreComplete};
 ghost use Rattle.pv_types.specs.Layouts.{look, is_complete_in, layout_in, tag_type};
-ghost use Rattle.pv_typed.specs.Tables.{Stored, whole_unit};
-ghost use Rattle.pv_typed.specs.Formed.{Grown};
+ghost use Rattle.pv_typed.specs.Tables.{whole_unit};
 ghost use Rattle.pv_typed.specs.Known.{AreKnown};
 ghost use Rattle.pv_typed.specs.Entries.{with_completed};
-ghost use Rattle.pv_check.specs.Growing.{AreSized, IsType};
+ghost use Rattle.pv_check.specs.Growing.{IsType};
 ghost use Rattle.pv_check.specs.Open.{state_of, IsOpen, Goes, HasTag, after_type, Texts, IfAnswered};
 ghost use Rattle.pv_check.specs.Tags.{filed_with, completion_of, with_member};
-ghost use Rattle.pv_check.specs.TagParts.{is_new_member, some_members};
+ghost use Rattle.pv_check.specs.TagParts.{is_new_member};
 ghost use Rattle.pv_check.specs.Raw.{Raw};
 ghost use Rattle.pv_check.specs.MembersRead.{members_if, members_shown, after_members, AreMembers, members_after};
 ghost use Rattle.pv_types.specs.Ty.{Ty};
@@ -20,9 +19,7 @@ ghost use Rattle.pv_check.specs.Rows.{member_of};
 ghost use Rattle.pv_check.specs.Seeing.{seen_in};
 ghost use Rattle.pv_check.specs.SeenAfter.{after_seen};
 ghost use Rattle.pv_check.specs.Specifiers.{with_type};
-ghost use Rattle.pv_check.specs.State.{give};
-ghost use Rattle.pv_typed.specs.Constants.{and_then};
-ghost use Rattle.pv_check.specs.Stepping.{AreSteps, steps_in};
+ghost use Rattle.pv_check.specs.Stepping.{AreSteps};
 ghost use Rattle.pv_check.specs.ListedRows.{member_from_steps, with_some_members};
 
 use crate::derivations::Step;

@@ -1,5 +1,5 @@
 // The conditional operator (C17 6.5.15).
-ghost use Rattle.std.specs.Prelude.{◌≡◌, ◌<◌, Bool, length, IfOk, OnOk, IsTrue, Some};
+ghost use Rattle.std.specs.Prelude.{◌≡◌, ◌<◌, length, IfOk, OnOk, Some};
 ghost use Rattle.pv_types.specs.Known.{tree};
 ghost use Rattle.pv_types.specs.Ty.{VoidTy};
 ghost use Rattle.pv_typed.specs.TypedTree.{type_of};

@@ -1,8 +1,7 @@
 // Types by declarators (C17 6.7.6): the steps from a declarator's name outwards, and the type that they make of another.
-ghost use Rattle.std.specs.Prelude.{◌≡◌, ◌<◌, ◌≤◌, ◌^◌, ◌*◌, nat_le, map, drop, length, IfOk, OnOk, Some, IsTrue};
-ghost use Rattle.pv_types.specs.Known.{Known, tree, env, tys_in, trees};
-ghost use Rattle.pv_types.specs.KnownParts.{list_at};
-ghost use Rattle.pv_types.specs.Formed.{parameters_at, IsBuilt, AllBelow};
+ghost use Rattle.std.specs.Prelude.{◌≡◌, ◌<◌, ◌≤◌, ◌^◌, ◌*◌, nat_le, drop, length, IfOk, OnOk, Some, IsTrue};
+ghost use Rattle.pv_types.specs.Known.{tree, env};
+ghost use Rattle.pv_types.specs.Formed.{parameters_at};
 ghost use Rattle.pv_types.specs.Layouts.{is_complete_in, layout_in};
 ghost use Rattle.pv_check.specs.Growing.{Grows, AreSized, IsType, type_if};
 ghost use Rattle.pv_check.specs.Derivations.{step, derived_type, array_of};

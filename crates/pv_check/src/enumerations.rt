@@ -1,6 +1,5 @@
 // Enumerations (C17 6.7.2.2): their tags and their enumerators.
-ghost use Rattle.std.specs.Prelude.{◌≡◌, ◌<◌, ◌≤◌, ◌+ℤ◌, pos, ℤ, Bool, length, IfOk, OnOk, IsTrue, Some, None};
-ghost use Rattle.pv_typed.specs.Tables.{Stored, whole_unit};
+ghost use Rattle.std.specs.Prelude.{◌≡◌, ◌<◌, ◌≤◌, ◌+ℤ◌, pos, ℤ, Bool, IfOk, OnOk, IsTrue, Some, None};
 ghost use Rattle.pv_check.specs.declared.scopes.TagEntry.TheVariants as tag;
 ghost use Rattle.pv_check.specs.Declarators.{after_value};
 ghost use Rattle.pv_check.specs.Growing.{IsType};

@@ -1,7 +1,7 @@
 //! Expressions (C17 6.5): their parts from left to right, and what is made of them. They call type names, and those
 //! call them for the sizes of arrays: one cycle, through three modules.
 ghost use Rattle.std.specs.Prelude.{◌≡◌, ◌<◌, false, IfOk, OnOk, Some, length};
-ghost use Rattle.pv_tree.specs.Tables.{Is, is_expression, is_declaration, expression_at as expression_of_node, declaration_at, arguments_at, IsListOf};
+ghost use Rattle.pv_tree.specs.Tables.{Is, is_expression, is_declaration, expression_at as expression_of_node, arguments_at, IsListOf};
 ghost use Rattle.pv_typed.specs.Known.{Each};
 ghost use Rattle.pv_check.specs.Passing.{after_nodes};
 ghost use Rattle.pv_typed.specs.NodeTrees.{expression_at, IsExpression};
@@ -10,10 +10,10 @@ ghost use Rattle.pv_check.specs.State.{give};
 ghost use Rattle.pv_typed.specs.Constants.{and_then};
 ghost use Rattle.pv_check.specs.Unary.{sizeof_type, cast_of};
 ghost use Rattle.pv_check.specs.Open.{state_of, IsOpen, Goes, Texts, state_in, IfAnswered};
-ghost use Rattle.pv_check.specs.Arms.{after_node, OpenIf, row_of_one, row_of_two, first_operand};
+ghost use Rattle.pv_check.specs.Arms.{after_node, OpenIf, row_of_one, first_operand};
 ghost use Rattle.pv_check.specs.Kept.{Kept, env_of};
-ghost use Rattle.pv_check.specs.Rows.{operand, within_sizeof};
-ghost use Rattle.pv_check.specs.RowParts.{sizeof_named, operand_size, cast, conditional, call};
+ghost use Rattle.pv_check.specs.Rows.{operand};
+ghost use Rattle.pv_check.specs.RowParts.{sizeof_named, cast, call};
 ghost use Rattle.pv_check.specs.Typing.{types, type_named, arguments};
 ghost use Rattle.pv_check.specs.Operands.{of_two_operands, of_three_operands, size_of_operand, size_of_named_type, cast_to_type, callee_of, call_with_list};
 ghost use Rattle.pv_check.specs.Callees.{CalledIf, after_callee};

@@ -1,6 +1,5 @@
 //! The formats of `printf` (C17 7.21.6.1).
-ghost use Rattle.std.specs.Prelude.{◌≡◌, ◌==◌, ◌||◌, ◌∷◌, [], ℕ, List, Option, Some, if◌then◌else◌, nat_eq};
-ghost use Rattle.std.specs.Cmp.Lexicographic.{pointwise};
+ghost use Rattle.std.specs.Prelude.{◌≡◌, ◌==◌, ◌||◌, ◌∷◌, [], ℕ, List, Option, Some};
 ghost use Rattle.pv_check.specs.PrintfFormats.{is_format, is_number_conversion, is_other_conversion};
 ghost use Rattle.pv_check.specs.Passing.{reads, reads_if};
 

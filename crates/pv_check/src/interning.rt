@@ -1,6 +1,6 @@
 // Types that typing makes.
-ghost use Rattle.std.specs.Prelude.{◌≡◌, ◌<◌, ◌≤◌, length, IfOk, OnOk, IsTrue};
-ghost use Rattle.pv_types.specs.Known.{Known, tree, trees, tree_in, env};
+ghost use Rattle.std.specs.Prelude.{◌≡◌, ◌<◌, length, IfOk, OnOk, IsTrue};
+ghost use Rattle.pv_types.specs.Known.{tree, trees, tree_in, env};
 ghost use Rattle.pv_types.specs.Formed.{IsKnown};
 ghost use Rattle.pv_check.specs.Growing.{Grows, AreSized, is_sized};
 

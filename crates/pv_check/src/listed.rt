@@ -1,20 +1,15 @@
 //! Structures, unions and enumerations with their lists (C17 6.7.2.1, 6.7.2.2), whose members have specifiers of their own.
-ghost use Rattle.std.specs.Prelude.{◌≡◌, ◌<◌, ◌≤◌, ◌+◌, IfOk, IfSome, List, Some, pos, ℤ, length};
+ghost use Rattle.std.specs.Prelude.{◌≡◌, ◌<◌, ◌≤◌, ◌+◌, IfOk, IfSome, Some, length};
 ghost use Rattle.pv_tree.specs.Tables.{Is, is_expression, is_declaration, is_declarator, tree_at, trees_at, optional_at, IsListOf};
 ghost use Rattle.pv_types.specs.Known.{tree};
-ghost use Rattle.pv_types.specs.Ty.{IntTy};
 ghost use Rattle.pv_num.specs.declared.kinds.IntKind.TheVariants as kind;
 ghost use Rattle.pv_check.specs.Declarators.{after_value};
 ghost use Rattle.pv_check.specs.Growing.{IsType};
-ghost use Rattle.pv_check.specs.MembersRead.{members_shown, after_members, AreMembers, members_after};
+ghost use Rattle.pv_check.specs.MembersRead.{after_members, AreMembers, members_after};
 ghost use Rattle.pv_check.specs.Open.{state_of, IsOpen, Goes, IfAnswered};
 ghost use Rattle.pv_check.specs.Seeing.{seen_in};
 ghost use Rattle.pv_check.specs.SeenAfter.{after_seen};
-ghost use Rattle.pv_check.specs.Specifiers.{with_type};
-ghost use Rattle.pv_check.specs.State.{give};
-ghost use Rattle.pv_typed.specs.Constants.{and_then};
-ghost use Rattle.pv_check.specs.Tags.{tag_before_list, completion_of, opened_enumeration, closed_enumeration};
-ghost use Rattle.pv_check.specs.TagParts.{some_members};
+ghost use Rattle.pv_check.specs.Tags.{opened_enumeration};
 ghost use Rattle.pv_check.specs.Typing.{members, member_in, member_declarators, member_declarator, enumerators, enumerator_in, enumerator_value};
 ghost use Rattle.pv_check.specs.WordRows.{total};
 ghost use Rattle.pv_check.specs.ListedRows.{with_composite_list, with_enumeration_list, declared_members, declared_member};

@@ -5,7 +5,7 @@ ghost use Rattle.pv_num.specs.declared.kinds.IntKind.TheVariants.{Int};
 ghost use Rattle.pv_typed.specs.TypedTree.{Object, Function, Constant};
 ghost use Rattle.pv_typed.specs.TypedUnits.{object_at, function_at, name_at};
 ghost use Rattle.pv_typed.specs.Tables.{whole_unit};
-ghost use Rattle.pv_typed.specs.NodeTrees.{expression_at, IsExpression};
+ghost use Rattle.pv_typed.specs.NodeTrees.{IsExpression};
 ghost use Rattle.pv_typed.specs.Known.{AreKnown};
 ghost use Rattle.pv_check.specs.State.{ObjectName, FunctionName, ConstantOf};
 ghost use Rattle.pv_check.specs.Scopes.{look};

@@ -6,8 +6,6 @@ ghost use Rattle.pv_check.specs.Declarators.{after_parameter, after_parameters, 
 ghost use Rattle.pv_check.specs.Derivations.{Parameter as WholeParameter};
 ghost use Rattle.pv_check.specs.Open.{state_of, IsOpen, Goes, IfAnswered};
 ghost use Rattle.pv_check.specs.RowParts.{by_function};
-ghost use Rattle.pv_check.specs.Scopes.{in_new_scope};
-ghost use Rattle.pv_typed.specs.Constants.{and_then};
 ghost use Rattle.pv_check.specs.Typing.{parameters, parameter_in};
 ghost use Rattle.pv_check.specs.Operands.{with_parameter_list};
 

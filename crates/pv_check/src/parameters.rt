@@ -1,17 +1,15 @@
 //! Parameters of functions (C17 6.7.6.3), and the scope that a list of them leaves (C17 6.2.1p4).
-ghost use Rattle.std.specs.Prelude.{◌≡◌, ◌<◌, ◌≤◌, ◌+◌, ◌++◌, ◌∷◌, [], Bool, List, Some, None, Option, true, false, length, IfOk, IfSome, OnOk, IsTrue};
+ghost use Rattle.std.specs.Prelude.{◌≡◌, ◌<◌, ◌+◌, ◌++◌, ◌∷◌, [], Bool, List, Some, None, Option, true, false, length, IfOk, IfSome, OnOk, IsTrue};
 ghost use Rattle.pv_types.specs.Adjusted.{is_adjusted};
 ghost use Rattle.pv_types.specs.Formed.{are_adjusted, parameters_at, AllBelow};
 ghost use Rattle.pv_types.specs.Known.{Known, tree, trees, tys_in, env};
 ghost use Rattle.pv_typed.specs.Entries.{with_object};
 ghost use Rattle.pv_typed.specs.Known.{Each, AreKnown};
-ghost use Rattle.pv_typed.specs.Formed.{Grown};
 ghost use Rattle.pv_typed.specs.Tables.{Stored, whole_unit};
-ghost use Rattle.pv_check.specs.Declarators.{parameter_shown, parameters_shown, signature_shown, signature_if, steps_shown, parameters_if, after_parameter, after_steps, parameters_after, with_parameter_of_type, parameter_from, ParameterKnown, SignatureKnown, StepsKnown, KnownSteps};
-ghost use Rattle.pv_check.specs.Derivations.{Parameter as WholeParameter, Signature as WholeSignature, derived_type, adjustment_of, with_parameter, means_none, no_void, proper_parameters, parameter_types, nearest_parameters};
+ghost use Rattle.pv_check.specs.Declarators.{parameters_shown, signature_shown, signature_if, steps_shown, parameters_if, after_parameter, after_steps, parameters_after, with_parameter_of_type, parameter_from, ParameterKnown, SignatureKnown, StepsKnown, KnownSteps};
+ghost use Rattle.pv_check.specs.Derivations.{Parameter as WholeParameter, Signature as WholeSignature, derived_type, adjustment_of, means_none, no_void, proper_parameters, parameter_types, nearest_parameters};
 ghost use Rattle.pv_check.specs.Growing.{AreSized, Grows, IsType, type_if};
 ghost use Rattle.pv_check.specs.Open.{state_of, IsOpen, Goes, Texts, IfAnswered};
-ghost use Rattle.pv_check.specs.Raw.{Raw};
 ghost use Rattle.pv_check.specs.RowParts.{parameter_of, by_function};
 ghost use Rattle.pv_check.specs.Scopes.{in_new_scope};
 ghost use Rattle.pv_typed.specs.Constants.{and_then};

@@ -1,11 +1,10 @@
 //! Scopes: what each name and each tag designates (C17 6.2.1, 6.2.3).
-ghost use Rattle.std.specs.Prelude.{◌≡◌, ◌<◌, ◌++◌, ◌∷◌, ◌+◌, ◌-◌, [], ℕ, List, option_map, slice_get, IfOk, OnOk, OnErr, Some, None, is_some, not, length, map, take, set, if◌then◌else◌, nat_eq};
-ghost use Rattle.std.specs.Map.{lookup};
+ghost use Rattle.std.specs.Prelude.{◌≡◌, ◌<◌, ◌++◌, ◌∷◌, ◌+◌, ◌-◌, [], ℕ, option_map, slice_get, IfOk, OnOk, Some, None, is_some, not, length, map, take, if◌then◌else◌};
 ghost use Rattle.pv_check.specs.Scopes.{find, look_by};
 ghost use Rattle.std.specs.Option.{option_or};
 ghost use Rattle.pv_check.specs.ScopeParts.{with_meaning};
 ghost use Rattle.pv_check.specs.declared.scopes.Entry.{Entry};
-ghost use Rattle.pv_check.specs.Raw.{Raw, RawScope, no_raw, raw_of, raw_innermost, raw_names, raw_tags, kept_names, kept_tags, with_name, with_tag, entry_of_tag, tag_if};
+ghost use Rattle.pv_check.specs.Raw.{Raw, no_raw, raw_of, raw_innermost, raw_names, raw_tags, kept_names, kept_tags, with_name, with_tag, entry_of_tag, tag_if};
 
 use indexmap::IndexMap;
 use pv_types::{NoMemory, TypeId};

@@ -1,8 +1,6 @@
 //! What sort of type an expression has, qualifiers aside (C17 6.2.5).
-ghost use Rattle.std.specs.Prelude.{◌≡◌, ◌<◌, ◌≤◌, length, is_some, IfSome, IsTrue};
-ghost use Rattle.pv_types.specs.Known.{tree, tree_in, trees, env};
-ghost use Rattle.pv_types.specs.Formed.{IsBuilt};
-ghost use Rattle.pv_types.specs.Layouts.{is_complete_in};
+ghost use Rattle.std.specs.Prelude.{◌≡◌, ◌<◌, length, is_some, IfSome};
+ghost use Rattle.pv_types.specs.Known.{tree, env};
 ghost use Rattle.pv_types.specs.SameTypes.{same_type};
 ghost use Rattle.pv_types.specs.Qualifiers.{is_const};
 ghost use Rattle.pv_check.specs.Sorts.{is_array, points_to_function, is_void_beside, has_void, complete_pointed_by, are_alike};

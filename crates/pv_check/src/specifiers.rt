@@ -1,7 +1,7 @@
 // What declaration specifiers say (C17 6.7p1).
 ghost use Rattle.std.specs.Prelude.{◌≡◌, ◌<◌, ◌≤◌, ◌+◌, ◌-◌, ◌^◌, length, IfOk, OnOk, IfSome, Some, None, true};
 ghost use Rattle.pv_types.specs.Known.{Known, tree};
-ghost use Rattle.pv_types.specs.Ty.{Ty, IntTy};
+ghost use Rattle.pv_types.specs.Ty.{IntTy};
 ghost use Rattle.pv_check.specs.Growing.{Grows, IsType, type_if};
 ghost use Rattle.pv_check.specs.Words.{no_words};
 ghost use Rattle.pv_check.specs.WordRows.{total, base_of};

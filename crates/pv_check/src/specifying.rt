@@ -4,9 +4,8 @@ ghost use Rattle.pv_tree.specs.Tables.{Forest, Is, HasList, is_specifier, is_dec
 ghost use Rattle.pv_tree.specs.Children.{HasSpecChildren};
 ghost use Rattle.pv_check.specs.ListedRows.{list_specifier, list_of, is_unlisted, is_no_keyword, with_composite_tag, with_enumeration_tag, with_typedef_name};
 ghost use Rattle.pv_check.specs.Specifiers.{Seen as WhatIsSeen, typedef_of, with_type};
-ghost use Rattle.pv_check.specs.State.{State, give};
-ghost use Rattle.pv_check.specs.Scopes.{look, look_tag};
-ghost use Rattle.pv_typed.specs.Constants.{and_then};
+ghost use Rattle.pv_check.specs.State.{State};
+ghost use Rattle.pv_check.specs.Scopes.{look};
 ghost use Rattle.pv_tree.specs.Nodes.{specifier_of};
 ghost use Rattle.pv_tree.specs.Syntax.{Keyword};
 ghost use Rattle.pv_types.specs.Known.{Known};
@@ -17,7 +16,6 @@ ghost use Rattle.pv_check.specs.Growing.{IsType, type_if};
 ghost use Rattle.pv_check.specs.WordRows.{total};
 ghost use Rattle.pv_check.specs.Seeing.{seen_in};
 ghost use Rattle.pv_check.specs.SeenAfter.{after_seen};
-ghost use Rattle.pv_check.specs.Tags.{composite_named, enumeration_named};
 ghost use Rattle.pv_check.specs.Typing.{specifier, specifiers};
 
 use crate::listed::{composite_listed, enumeration_listed};

@@ -1,11 +1,10 @@
 // Structures, unions and enumerations: what declares a tag and what it names (C17 6.7.2.3).
 ghost use Rattle.std.specs.Bool.{beq};
-ghost use Rattle.std.specs.Prelude.{◌≡◌, ◌&&◌, ◌<◌, ◌≤◌, ◌+◌, ◌++◌, ◌∷◌, [], Bool, Some, None, length, IfOk, OnOk, IfSome, IsTrue};
+ghost use Rattle.std.specs.Prelude.{◌≡◌, ◌&&◌, ◌<◌, [], Bool, Some, None, length, IfOk, OnOk, IfSome, IsTrue};
 ghost use Rattle.pv_types.specs.Known.{heading_at, tree, trees, tree_in, env};
 ghost use Rattle.pv_types.specs.Formed.{IsKnown, members_in};
 ghost use Rattle.pv_types.specs.Layouts.{tag_type, look};
-ghost use Rattle.pv_typed.specs.Tables.{Stored, whole_unit};
-ghost use Rattle.pv_typed.specs.Formed.{Grown};
+ghost use Rattle.pv_typed.specs.Tables.{whole_unit};
 ghost use Rattle.pv_typed.specs.Known.{AreKnown};
 ghost use Rattle.pv_typed.specs.Entries.{with_heading};
 ghost use Rattle.pv_check.specs.Growing.{AreSized, is_sized, IsType};

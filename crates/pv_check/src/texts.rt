@@ -1,17 +1,14 @@
 //! String literals (C17 6.4.5).
-ghost use Rattle.std.specs.Prelude.{◌≡◌, ◌<◌, ◌+◌, ◌^◌, [], Some, IfOk, OnOk, not, length, slice_index_or};
+ghost use Rattle.std.specs.Prelude.{◌≡◌, ◌<◌, ◌+◌, ◌^◌, [], Some, IfOk, OnOk, length, slice_index_or};
 ghost use Rattle.pv_types.specs.Ty.{IntTy, ArrayOf};
 ghost use Rattle.pv_num.specs.declared.kinds.IntKind.TheVariants.{Char};
 ghost use Rattle.pv_typed.specs.TypedTree.{String};
-ghost use Rattle.pv_typed.specs.Adding.{with_literal};
-ghost use Rattle.pv_typed.specs.Tables.{whole_unit};
 ghost use Rattle.pv_typed.specs.NodeTrees.{expression_at, IsExpression};
-ghost use Rattle.pv_typed.specs.Formed.{Grown};
 ghost use Rattle.pv_typed.specs.Known.{AreKnown};
 ghost use Rattle.pv_check.specs.Open.{state_of, IsOpen, Goes, Texts};
 ghost use Rattle.pv_check.specs.Arms.{after_node, OpenIf};
-ghost use Rattle.pv_check.specs.Kept.{Kept, expression_if};
-ghost use Rattle.pv_check.specs.StringLiterals.{concatenation_of, bytes_of_text, text_of};
+ghost use Rattle.pv_check.specs.Kept.{Kept};
+ghost use Rattle.pv_check.specs.StringLiterals.{bytes_of_text, text_of};
 ghost use Rattle.pv_check.specs.Values.{source_node};
 
 use crate::scopes::Scopes;

@@ -1,5 +1,5 @@
 //! Type names (C17 6.7.7), and what specifiers and the steps of declarators come to.
-ghost use Rattle.std.specs.Prelude.{◌≡◌, ◌<◌, ◌≤◌, Bool, length, Some, None, IfOk, OnOk, false, IfSome, ℕ};
+ghost use Rattle.std.specs.Prelude.{◌≡◌, ◌<◌, Bool, length, Some, None, IfOk, OnOk, false, IfSome, ℕ};
 ghost use Rattle.pv_types.specs.Known.{tree, env};
 ghost use Rattle.pv_typed.specs.Tables.{whole_unit};
 ghost use Rattle.pv_typed.specs.Known.{AreKnown};
@@ -14,7 +14,7 @@ ghost use Rattle.pv_typed.specs.Constants.{and_then};
 ghost use Rattle.pv_check.specs.WordRows.{base_of};
 ghost use Rattle.pv_check.specs.Stepping.{steps_in, AreSteps};
 ghost use Rattle.pv_tree.specs.Nodes.{specifier_of};
-ghost use Rattle.pv_tree.specs.Tables.{Forest, Is, is_declaration, declaration_at, is_declarator, is_specifier, trees_at, optional_at, IsListOf};
+ghost use Rattle.pv_tree.specs.Tables.{Forest, Is, is_declaration, declaration_at, is_declarator, is_specifier, trees_at, IsListOf};
 ghost use Rattle.pv_check.specs.Rows.{type_without_storage};
 ghost use Rattle.pv_check.specs.Typing.{type_named, specifiers};
 ghost use Rattle.pv_tree.specs.Syntax.{TypeName, OfSpecifier, NoTrees, Then};

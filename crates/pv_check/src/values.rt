@@ -11,7 +11,7 @@ ghost use Rattle.pv_typed.specs.Children.{HasOperands};
 ghost use Rattle.pv_typed.specs.Formed.{NamesIn};
 ghost use Rattle.pv_check.specs.Qualified.{const_version};
 ghost use Rattle.pv_types.specs.SameTypes.{same_type};
-ghost use Rattle.pv_typed.specs.Tables.{Stored, nodes};
+ghost use Rattle.pv_typed.specs.Tables.{nodes};
 ghost use Rattle.pv_typed.specs.NodeTrees.{expression_at, IsExpression};
 ghost use Rattle.pv_typed.specs.Known.{AreKnown};
 ghost use Rattle.pv_check.specs.Values.{implied_node, read_at, value_of, conversion_to, promoted_value};

@@ -1,5 +1,5 @@
 // Which type the type words among specifiers name (C17 6.7.2p2).
-ghost use Rattle.std.specs.Prelude.{◌≡◌, ◌<◌, ◌≤◌, ◌+◌, ◌-◌, ◌^◌, length};
+ghost use Rattle.std.specs.Prelude.{◌≡◌, ◌<◌, ◌≤◌, ◌+◌, ◌-◌, ◌^◌};
 ghost use Rattle.pv_check.specs.Words.{with_word, same_words, type_of_words};
 ghost use Rattle.pv_check.specs.WordRows.{total, type_by_words, base_if};
 

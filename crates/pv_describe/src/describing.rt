@@ -1,5 +1,5 @@
 // What the modes `check` and `layout` print.
-ghost use Rattle.std.specs.Prelude.{◌≡◌, ◌<◌, ◌≤◌, ◌+◌, ◌++◌, ◌^◌, length, codes, is_some, IsTrue, IfOk, OnOk, true, false};
+ghost use Rattle.std.specs.Prelude.{◌≡◌, ◌<◌, ◌≤◌, ◌+◌, ◌++◌, ◌^◌, length, is_some, IsTrue, IfOk, OnOk, true, false};
 ghost use Rattle.pv_types.specs.Ty.{StructTag, UnionTag};
 ghost use Rattle.pv_types.specs.Known.{tree, env, heading_at};
 ghost use Rattle.pv_types.specs.Formed.{is_union_in, IsBuilt};

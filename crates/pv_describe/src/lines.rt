@@ -1,5 +1,5 @@
 // The lines of a layout.
-ghost use Rattle.std.specs.Prelude.{◌≡◌, IfOk, codes};
+ghost use Rattle.std.specs.Prelude.{◌≡◌, IfOk};
 ghost use Rattle.pv_describe.specs.DescribingParts as described_parts;
 
 use pv_types::NoMemory;

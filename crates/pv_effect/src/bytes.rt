@@ -7,7 +7,6 @@ ghost use Rattle.pv_types.specs.Formed.{named_members, is_union_in, IsBuilt};
 ghost use Rattle.pv_types.specs.Layouts.{layout_in, is_complete_in, look};
 ghost use Rattle.pv_types.specs.LayoutParts.{part_count, union_parts, struct_parts, or_none};
 ghost use Rattle.pv_layout.specs.Parts.{leaves};
-ghost use Rattle.pv_types.specs.Sorts.{is_scalar};
 ghost use Rattle.pv_effect.specs.EffectiveType.{some_over, accepts};
 ghost use Rattle.pv_effect.specs.Searches.{is_sought, passes, comes_to, IsBelow, is_over_type, is_over_members, element_parts};
 

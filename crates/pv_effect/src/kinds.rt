@@ -1,5 +1,5 @@
 // What kind of type it is, qualifiers aside.
-ghost use Rattle.std.specs.Prelude.{◌≡◌, ◌<◌, ◌||◌, length};
+ghost use Rattle.std.specs.Prelude.{◌≡◌, ◌<◌, length};
 ghost use Rattle.pv_types.specs.Known.{tree};
 ghost use Rattle.pv_effect.specs.EffectiveType.{same_or_counterpart};
 ghost use Rattle.pv_types.specs.Sorts.{is_composite, is_character};

@@ -1,5 +1,5 @@
 // Reads and writes through lvalues (C17 6.3.2.1p2, 6.5.16), which are accesses of the node's own.
-ghost use Rattle.std.specs.Prelude.{◌≡◌, ◌≤◌, ◌<◌, ◌++◌, List, [], ◌∷◌, length, true, false, Result, Err, IfOk, IfErr, OnOk, Some};
+ghost use Rattle.std.specs.Prelude.{◌≡◌, ◌≤◌, ◌<◌, ◌++◌, List, ◌∷◌, length, true, false, Result, Err, IfOk, IfErr, OnOk, Some};
 ghost use Rattle.pv_inst.specs.declared.values.Tried.{Tried};
 ghost use Rattle.pv_inst.specs.declared.values.Miss.{Miss};
 ghost use Rattle.pv_inst.specs.Table.{IsMadeIn};
@@ -15,11 +15,11 @@ ghost use Rattle.pv_world.specs.Worths.{undefined_behaviour};
 ghost use Rattle.pv_world.specs.Telling.{telling, blame_of, fault_of, verdict_of};
 ghost use Rattle.pv_world.specs.Accesses.{is_inexact};
 ghost use Rattle.pv_world.specs.Preconditions.{IsStored};
-ghost use Rattle.pv_world.specs.Coming.{Came, Faulted, coming_of, worth_of, wrong_for, IsMadeWorth, DidAndTold};
+ghost use Rattle.pv_world.specs.Coming.{Came, Faulted, coming_of, worth_of, IsMadeWorth, DidAndTold};
 ghost use Rattle.pv_watch.specs.declared.event.What.{What as Told};
 ghost use Rattle.pv_eval.specs.TypeForms.{lvalue, shape_of};
 ghost use Rattle.pv_eval.specs.Sizes.{setting_of, IsComplete};
-ghost use Rattle.pv_eval.specs.Accesses.{access_to, reads_permitted, reads_at, writes_alone, writes_permitted, writes_at, writes_to};
+ghost use Rattle.pv_eval.specs.Accesses.{reads_permitted, reads_at, writes_alone, writes_permitted, writes_at, writes_to};
 ghost use Rattle.pv_eval.specs.AccessParts.{reads_from};
 
 use crate::permission::permits;

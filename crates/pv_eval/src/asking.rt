@@ -17,7 +17,6 @@ ghost use Rattle.pv_world.specs.Worlds.{World as WorldView, Worth};
 ghost use Rattle.pv_world.specs.Worths.{value_of};
 ghost use Rattle.pv_world.specs.Coming.{worth_of, DidAndTold, Tells};
 ghost use Rattle.pv_eval.specs.States.{Setting, Res};
-ghost use Rattle.pv_eval.specs.Acting.{after_doing};
 ghost use Rattle.pv_eval.specs.Arguments.{argument_shape, shape_to};
 ghost use Rattle.pv_eval.specs.Frames.{asked_with};
 ghost use Rattle.pv_eval.specs.Library.{noted_as, blame_in, asks};

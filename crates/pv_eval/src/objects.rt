@@ -1,5 +1,5 @@
 // Objects and literals of a unit (C17 6.2.4, 6.4.5, 6.7.9). What can't be done, isn't: in a checked unit all can.
-ghost use Rattle.std.specs.Prelude.{◌≡◌, ◌≢◌, ◌≤◌, ◌<◌, ◌+◌, ◌&&◌, ◌==◌, List, length, take, OnOk, Ok, Err, None, codes, All, false};
+ghost use Rattle.std.specs.Prelude.{◌≡◌, ◌≢◌, ◌≤◌, ◌<◌, ◌+◌, ◌==◌, List, length, take, OnOk, Ok, Err, None, codes, All, false};
 ghost use Rattle.pv_script.specs.Names.{name_at as text_of};
 ghost use Rattle.pv_types.specs.Known.{tree};
 ghost use Rattle.pv_inst.specs.Table.{IsMadeIn};

@@ -1,17 +1,15 @@
 // Which accesses the effective type of an object permits (C17 6.5p6, 6.5p7).
-ghost use Rattle.std.specs.Prelude.{◌≡◌, ◌≤◌, ◌<◌, ◌^◌, Bool, true, Some, length, IsTrue, IfOk, IfSome, map};
+ghost use Rattle.std.specs.Prelude.{◌≡◌, ◌≤◌, ◌<◌, ◌^◌, Bool, true, Some, length, IsTrue, IfOk, IfSome};
 ghost use Rattle.std.specs.Option.{option_map};
 ghost use Rattle.pv_types.specs.Known.{tree, env};
 ghost use Rattle.pv_types.specs.Formed.{IsBuilt};
 ghost use Rattle.pv_types.specs.Layouts.{is_complete_in, layout_in};
-ghost use Rattle.pv_types.specs.Ty.{Ty};
 ghost use Rattle.pv_types.specs.Sorts.{bare_type, is_character, is_scalar_in};
 ghost use Rattle.pv_effect.specs.EffectiveType.{permits_marks};
 ghost use Rattle.pv_inst.specs.declared.values.Kind.TheVariants.{Heap};
 ghost use Rattle.pv_shadow.specs.Bytes.{bytes_from};
 ghost use Rattle.pv_object.specs.Reaching.{IsReach};
 ghost use Rattle.pv_typed.specs.Known.{AreKnown};
-ghost use Rattle.pv_types.specs.declared.terms.TypeId.{TypeId as TypeNumber};
 ghost use Rattle.pv_eval.specs.TypeForms.{lvalue};
 ghost use Rattle.pv_eval.specs.Sizes.{setting_of, size_in, IsComplete};
 ghost use Rattle.pv_eval.specs.Permission.{permits_object, type_by, permits_in, permits};

@@ -1,6 +1,5 @@
 // Operations on values that go by the size of a type (C17 6.5.2.3, 6.5.6). An object type of more than 2^32 bytes is none of a checked
 // unit's: then the run ends as by a value that is missing.
-ghost use Rattle.std.specs.Prelude.{◌≡◌};
 ghost use Rattle.pv_types.specs.Known.{tree};
 ghost use Rattle.pv_world.specs.Coming.{worth_of, DidAndTold};
 ghost use Rattle.pv_eval.specs.States.{Setting};

@@ -1,5 +1,5 @@
 // What operations ask of a type (C17 6.2.5, 6.3, 6.5.3.4). A number that is that of no type is as `void`.
-ghost use Rattle.std.specs.Prelude.{◌≡◌, ◌≤◌, ◌<◌, ◌^◌, ◌/◌, ◌&&◌, true, length, IsTrue, IfSome, IfNone, is_some};
+ghost use Rattle.std.specs.Prelude.{◌≡◌, ◌≤◌, ◌<◌, ◌&&◌, true, length, IsTrue, IfSome, IfNone, is_some};
 ghost use Rattle.pv_types.specs.Ty.{VoidTy, IntTy};
 ghost use Rattle.pv_types.specs.Layouts.{up_to, is_complete_in, layout_in};
 ghost use Rattle.pv_types.specs.Known.{tree, trees, env, tree_in};

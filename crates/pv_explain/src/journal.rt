@@ -1,5 +1,5 @@
 //! The journal of a run: what it did to its memory, event by event.
-ghost use Rattle.std.specs.Prelude.{◌≡◌, ◌<◌, ◌++◌, [], length, IfOk, OnOk};
+ghost use Rattle.std.specs.Prelude.{◌≡◌, ◌<◌, ◌++◌, [], IfOk, OnOk};
 ghost use Rattle.pv_watch.specs.Slots.{watcher, Present};
 ghost use Rattle.pv_watch.specs.Lines.{event_lines};
 ghost use Rattle.pv_watch.specs.TextParts.{last_line};

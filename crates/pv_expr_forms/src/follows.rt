@@ -1,6 +1,6 @@
 //! The operators by their tokens: what stands before an operand, and what goes on behind one.
 ghost use Rattle.std.specs.Prelude.{◌≡◌, true, None};
-ghost use Rattle.pv_expr_forms.specs.Follows.{prefix_of, prefix_operand, binary_of, assign_of, other_of, follow_of_mark, follow_of, follow_rank, follow_left, join_right};
+ghost use Rattle.pv_expr_forms.specs.Follows.{prefix_of, prefix_operand, binary_of, assign_of, other_of, follow_of_mark, follow_of};
 
 use pv_token::{Mark, TokenKind, Word};
 use pv_tree::{AssignOperator, BinaryOperator, UnaryOperator};

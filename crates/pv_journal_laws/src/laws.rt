@@ -1,5 +1,5 @@
 // Laws of journals, each a function without work.
-ghost use Rattle.std.specs.Prelude.{◌≡◌, ◌<◌, ◌≤◌, ◌⊎◌, ◌↔◌, ℕ, Bool, List, Some, map, take};
+ghost use Rattle.std.specs.Prelude.{◌≡◌, ◌≤◌, ◌↔◌, ℕ, Bool, List, Some, map, take};
 ghost use Rattle.std.specs.List.{filter};
 ghost use Rattle.std.specs.declared.option.Option.{Option};
 ghost use Rattle.pv_script.specs.Lines.{ScriptLine};

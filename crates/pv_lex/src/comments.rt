@@ -1,7 +1,6 @@
 //! Comments (C17 6.4.9), and the line markers that a preprocessor writes, as `# 12 "file.c" 1`.
-ghost use Rattle.std.specs.Prelude.{◌≡◌, ◌≤◌, ◌^◌, ◌-◌, ◌+◌, ◌<◌, length, IfSome, Some, None, true, false, not, ◌&&◌, nat_eq, if◌then◌else◌};
+ghost use Rattle.std.specs.Prelude.{◌≡◌, ◌≤◌, ◌^◌, ◌-◌, ◌+◌, ◌<◌, length, IfSome, Some, None, false, not, ◌&&◌, nat_eq, if◌then◌else◌};
 ghost use Rattle.std.specs.Option.{option_map};
-ghost use Rattle.pv_lex.specs.Bytes.{begins, line_feeds};
 ghost use Rattle.pv_lex.specs.Pieces.{Marker, or_bad};
 ghost use Rattle.pv_lex.specs.Views.{stand_of};
 ghost use Rattle.pv_lex.specs.Comments.{block_comment};

@@ -1,5 +1,5 @@
 //! From the bytes of a source to its tokens.
-ghost use Rattle.std.specs.Prelude.{◌≡◌, ◌++◌, [], Bool, ◌≤◌, ◌<◌, ◌^◌, length, IfOk, OnOk, IfErr, List, ℕ, ◌⊎◌, true, false, Some, slice_get, slice_index, nat_eq};
+ghost use Rattle.std.specs.Prelude.{◌≡◌, ◌++◌, [], Bool, ◌≤◌, ◌<◌, ◌^◌, length, IfOk, OnOk, IfErr, List, ℕ, ◌⊎◌, true, false, Some};
 ghost use Rattle.pv_lex.specs.Rows.{Place, Row, start, bytes_of_row, line_behind, fresh_behind, spelt_here};
 ghost use Rattle.pv_token.specs.Table.{Table};
 ghost use Rattle.pv_token.specs.Kept.{HasRoom, KnowsAll, Adds};

@@ -1,11 +1,10 @@
 //! Character constants (C17 6.4.4.4) and string literals (C17 6.4.5).
 ghost use Rattle.std.specs.Prelude.{◌≡◌, ◌≤◌, ◌<◌, length, IfOk, IfSome, Some, None};
 ghost use Rattle.std.specs.Option.{option_map};
-ghost use Rattle.pv_lex.specs.Bytes.{begins};
 ghost use Rattle.pv_lex.specs.Tables.{row_of};
 ghost use Rattle.pv_lex.specs.Pieces.{or_bad};
 ghost use Rattle.pv_lex.specs.Views.{stand_of};
-ghost use Rattle.pv_lex.specs.Characters.{escapes, character_by_number, escape_at, character_at, character_constant, characters, string_literal};
+ghost use Rattle.pv_lex.specs.Characters.{escapes, character_by_number, escape_at, character_at, character_constant, string_literal};
 
 use crate::bytes::{Class, behind, is_in, run};
 use crate::escapes::ESCAPES;

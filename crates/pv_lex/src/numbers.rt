@@ -1,7 +1,6 @@
 //! Integer constants (C17 6.4.4.1).
-ghost use Rattle.std.specs.Prelude.{◌≡◌, ◌≤◌, ◌^◌, length, if◌then◌else◌, nat_lt, Some, None, IfSome};
+ghost use Rattle.std.specs.Prelude.{◌≡◌, ◌≤◌, ◌^◌, if◌then◌else◌, nat_lt, Some, None};
 ghost use Rattle.std.specs.Option.{option_map};
-ghost use Rattle.pv_lex.specs.Bytes.{begins};
 ghost use Rattle.pv_lex.specs.Tables.{row_of};
 ghost use Rattle.pv_lex.specs.Pieces.{or_bad};
 ghost use Rattle.pv_lex.specs.Views.{stand_of};

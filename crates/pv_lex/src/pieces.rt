@@ -1,5 +1,5 @@
 //! Words and punctuators, and what may stand at a place of the source.
-ghost use Rattle.std.specs.Prelude.{◌≡◌, ◌≤◌, ◌^◌, ◌&&◌, ◌∷◌, ℕ, Bool, List, length, IfOk, IfSome, drop};
+ghost use Rattle.std.specs.Prelude.{◌≡◌, ◌≤◌, ◌^◌, ◌&&◌, ◌∷◌, ℕ, Bool, List, length, IfSome};
 ghost use Rattle.std.specs.Option.{option_map};
 ghost use Rattle.pv_lex.specs.Bytes.{begins};
 ghost use Rattle.pv_lex.specs.Tables.{first_row, row_of};

@@ -3,7 +3,6 @@ ghost use Rattle.std.specs.Prelude.{◌≡◌, ℕ, ◌<◌, [], ◌∷◌, ◌+
 ghost use Rattle.pv_script.specs.Names.{name_at as text_of};
 ghost use Rattle.pv_inst.specs.Table.{IsMadeIn};
 ghost use Rattle.pv_inst.specs.Answers.{IsLive};
-ghost use Rattle.pv_inst.specs.Infos.{info_of};
 ghost use Rattle.pv_inst.specs.Use.{empty_use, use_answer, after_use};
 ghost use Rattle.pv_inst.specs.declared.values.Test.TheVariants.{Block};
 ghost use Rattle.pv_object.specs.Memory.{with_table};
@@ -14,7 +13,6 @@ ghost use Rattle.pv_libc.specs.Steps.{with_notes};
 ghost use Rattle.pv_libc.specs.Answers.{OrNoMemory, worth};
 ghost use Rattle.pv_object.specs.Answers.{without_use, tried_in, survivors};
 ghost use Rattle.pv_libc.specs.Heap.{told_of, block_stop, block_answer, pointer_to, request_of_bytes, block, malloc, calloc, free, realloc, resize_of, after_block_copy};
-ghost use Rattle.pv_libc.specs.Blocks.{after_filling};
 
 use crate::blocks::fill;
 use crate::notes::{note_use, stopped_after};

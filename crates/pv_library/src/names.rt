@@ -1,6 +1,5 @@
 //! The functions of the library by their names (C17 7.1.3p1).
-ghost use Rattle.std.specs.Prelude.{◌≡◌, ◌==◌, ◌||◌, ◌∷◌, [], ℕ, List, Option, Some, if◌then◌else◌, nat_eq};
-ghost use Rattle.std.specs.Cmp.Lexicographic.{pointwise};
+ghost use Rattle.std.specs.Prelude.{◌≡◌, ◌==◌, ◌∷◌, List, Option, Some};
 ghost use Rattle.pv_library.specs.LibraryNames.{NamedFunction, named_function, function_among, library_named};
 
 use crate::library::Library;

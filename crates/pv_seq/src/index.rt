@@ -1,5 +1,5 @@
 //! An index by address of the first accesses of a list, for long rows.
-ghost use Rattle.std.specs.Prelude.{◌≡◌, ◌≤◌, ◌<◌, ◌+◌, ℕ, true, false, length, get_or, find, OnOk, OnErr};
+ghost use Rattle.std.specs.Prelude.{◌≡◌, ◌≤◌, ◌<◌, ◌+◌, ℕ, true, false, length, get_or, find, OnOk};
 ghost use Rattle.pv_seq.specs.Sequencing.{Access, clash};
 ghost use Rattle.pv_seq.specs.Frames.{row};
 ghost use Rattle.pv_seq.specs.Marks.{NoneMarked};

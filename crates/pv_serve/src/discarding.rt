@@ -1,5 +1,5 @@
 //! A sink that keeps nothing.
-ghost use Rattle.std.specs.Prelude.{◌≡◌, ◌<◌, Ok, None, length};
+ghost use Rattle.std.specs.Prelude.{◌<◌, Ok, None};
 
 use pv_script::{Failed, Sink};
 

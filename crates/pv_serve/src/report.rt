@@ -1,5 +1,5 @@
 // The report: one line, and the status that goes with it.
-ghost use Rattle.std.specs.Prelude.{◌≡◌, ◌<◌, ◌⊎◌, ◌++◌, List, ℕ, IfOk, string_bytes};
+ghost use Rattle.std.specs.Prelude.{◌≡◌, ◌<◌, ◌⊎◌, ◌++◌, IfOk, string_bytes};
 ghost use Rattle.pv_script.specs.Names.{name_at};
 ghost use Rattle.pv_serve.specs.Report as specified;
 ghost use Rattle.pv_serve.specs.ReportParts as specified_parts;

@@ -1,5 +1,5 @@
 //! The sides of pairs of candidates (the memory model), as a word says them.
-ghost use Rattle.std.specs.Prelude.{◌≡◌, ◌==◌, List, map, IfOk};
+ghost use Rattle.std.specs.Prelude.{◌≡◌, ◌==◌, map, IfOk};
 ghost use Rattle.pv_exec.specs.Sided.{is_high};
 ghost use Rattle.pv_serve.specs.Words as specified;
 

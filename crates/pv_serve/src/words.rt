@@ -1,7 +1,6 @@
 // The words of the command line (C17 5.1.2.2.1).
-ghost use Rattle.std.specs.Prelude.{◌≡◌, ◌<◌, ◌≤◌, ◌&&◌, ◌||◌, ◌++◌, nat_lt, length, codes, IfSome, OnOk, IfOk, string_bytes};
+ghost use Rattle.std.specs.Prelude.{◌≡◌, ◌<◌, ◌≤◌, ◌&&◌, ◌||◌, ◌++◌, IfSome, OnOk, IfOk};
 ghost use Rattle.std.specs.List.{list_all};
-ghost use Rattle.std.specs.Str.{bytes_eq};
 ghost use Rattle.pv_script.specs.Words.{number_to};
 ghost use Rattle.pv_serve.specs.Words as specified;
 ghost use Rattle.pv_serve.specs.WordParts as specified_parts;

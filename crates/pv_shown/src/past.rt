@@ -1,6 +1,6 @@
 // What a run did to its memory, by turns: when each instance was made, ended and was exposed, when each pair of candidates was made and used.
 // What there was at any turn is read off it, so that no state is made for one.
-ghost use Rattle.std.specs.Prelude.{◌≡◌, ◌++◌, ◌∷◌, ◌<◌, [], length, position, slice_get, slice_set, Some, IfSome, IfNone, IfOk, OnOk};
+ghost use Rattle.std.specs.Prelude.{◌≡◌, ◌++◌, ◌∷◌, ◌<◌, [], length, position, slice_get, Some, IfSome, IfNone, IfOk, OnOk};
 ghost use Rattle.pv_script.specs.Names.{name_at};
 ghost use Rattle.pv_journal.specs.Lines.{id_under, rows_under};
 ghost use Rattle.pv_journal.specs.Obeying.{same_id, Obeys};

@@ -1,5 +1,5 @@
 // What there was at a turn, as lines. The only error of these functions is want of memory; some of the text may have been added then.
-ghost use Rattle.std.specs.Prelude.{◌≡◌, ◌<◌, ◌+◌, ◌^◌, ◌++◌, ◌∷◌, ◌≤◌, [], ℕ, List, codes, map, length, count_by, if◌then◌else◌, OnOk, IfOk};
+ghost use Rattle.std.specs.Prelude.{◌≡◌, ◌<◌, ◌+◌, ◌^◌, ◌++◌, ◌≤◌, [], ℕ, List, codes, map, length, count_by, if◌then◌else◌, OnOk, IfOk};
 ghost use Rattle.std.specs.List.{filter, flat_map, fold, insert, position_or_len};
 ghost use Rattle.std.specs.Prelude.{nat_lt, position};
 ghost use Rattle.std.specs.Fmt.{decimal};

@@ -1,5 +1,5 @@
 // Parts of lines. The only error of these functions is want of memory; some of the text may have been added then.
-ghost use Rattle.std.specs.Prelude.{◌≡◌, ◌++◌, ◌∷◌, [], codes, OnOk};
+ghost use Rattle.std.specs.Prelude.{◌≡◌, ◌++◌, OnOk};
 ghost use Rattle.std.specs.Fmt.{decimal};
 ghost use Rattle.pv_print.specs.Texts.{address_text};
 ghost use Rattle.pv_journal.specs.Journals.{id_text};

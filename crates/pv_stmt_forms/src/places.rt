@@ -1,5 +1,5 @@
 //! What the tokens from a place are, as far as that takes no part of a statement to be read.
-ghost use Rattle.std.specs.Prelude.{◌≡◌, ◌≤◌, length, drop};
+ghost use Rattle.std.specs.Prelude.{◌≤◌, length, drop};
 ghost use Rattle.pv_expr_forms.specs.Reader.{after};
 ghost use Rattle.pv_expr_forms.specs.Answers.{IsBehind};
 ghost use Rattle.pv_stmt_forms.specs.Parts.{test_of};

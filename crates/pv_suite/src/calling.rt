@@ -1,5 +1,5 @@
 //! The top call: what one call of the program does from its words to its status.
-ghost use Rattle.std.specs.Prelude.{◌≡◌, ◌≢◌, ◌⊎◌, ◌≤◌, ℕ, List, Some, IsNone};
+ghost use Rattle.std.specs.Prelude.{◌≡◌, ◌⊎◌, ◌≤◌, ℕ, List, Some, IsNone};
 ghost use Rattle.pv_script.specs.Calm.{calm_held, calm_written};
 ghost use Rattle.pv_script.specs.Outside.{HoldTheSame};
 ghost use Rattle.pv_serve.specs.Words.{texts};

@@ -1,6 +1,6 @@
 //! The tokens of a source, with their names and literals.
-ghost use Rattle.std.specs.Prelude.{◌≡◌, ◌≤◌, ◌<◌, ◌+◌, ◌^◌, List, [], ◌∷◌, ◌++◌, length, map, Some, slice_get, slice_index, IfOk, OnOk, OnErr};
-ghost use Rattle.pv_token.specs.Said.{Spelt, as_char};
+ghost use Rattle.std.specs.Prelude.{◌≡◌, ◌≤◌, ◌<◌, ◌+◌, ◌^◌, [], ◌∷◌, ◌++◌, length, map, Some, slice_get, IfOk, OnOk, OnErr};
+ghost use Rattle.pv_token.specs.Said.{as_char};
 ghost use Rattle.pv_token.specs.Views.{said_of};
 ghost use Rattle.pv_token.specs.Short.{AreShort, token_of};
 ghost use Rattle.pv_token.specs.Table.{Table};

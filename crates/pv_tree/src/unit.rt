@@ -1,6 +1,6 @@
 //! The tables of a translation unit.
-ghost use Rattle.std.specs.Prelude.{◌≡◌, ◌<◌, ◌≤◌, ◌+◌, ◌^◌, ◌∷◌, [], length, Some, slice_get, IfOk, OnOk, OnErr};
-ghost use Rattle.pv_tree.specs.Tables.{Forest, Tables, no_tables, with_tree, with_list, with_external, tree_at, list_at, is_expression, is_declaration, is_declarator, is_specifier, is_initializer, is_statement, Has, HasOptional, HasList, Is};
+ghost use Rattle.std.specs.Prelude.{◌≡◌, ◌<◌, ◌≤◌, ◌+◌, ◌∷◌, [], length, Some, slice_get, IfOk, OnOk, OnErr};
+ghost use Rattle.pv_tree.specs.Tables.{Tables, no_tables, with_tree, with_list, with_external, tree_at, list_at, is_expression, is_declaration, is_declarator, is_specifier, is_initializer, is_statement, Is};
 ghost use Rattle.pv_tree.specs.Syntax.{is_external, OfExpression, OfDeclaration, OfDeclarator, OfSpecifier, OfInitializer, OfStatement};
 ghost use Rattle.pv_tree.specs.Nodes.{tree_of, expression_of, declaration_of, declarator_of, specifier_of, initializer_of, statement_of};
 ghost use Rattle.pv_tree.specs.Children.{HasChildren, HasExprChildren, HasDeclChildren, HasDeclaratorChildren, HasSpecChildren, HasInitChildren, HasStmtChildren};

@@ -1,17 +1,16 @@
 // Address constants, and what `constant` answers.
-ghost use Rattle.std.specs.Prelude.{◌≡◌, ◌<◌, ◌≤◌, ◌^◌, ◌-◌, ◌*ℤ◌, ◌+ℤ◌, ◌≤ℤ◌, ℤ, pos, neg_ℤ, Bool, true, Some, None, IfSome, length, is_some, IsTrue};
+ghost use Rattle.std.specs.Prelude.{◌≡◌, ◌<◌, ◌≤◌, ◌^◌, ◌-◌, ◌*ℤ◌, ◌+ℤ◌, ◌≤ℤ◌, ℤ, pos, neg_ℤ, Bool, Some, None, IfSome, length, is_some};
 ghost use Rattle.std.specs.Option.{option_map};
 ghost use Rattle.std.specs.declared.option.Option.{Option};
-ghost use Rattle.pv_types.specs.Ty.{Ty};
-ghost use Rattle.pv_types.specs.Known.{tree, Known};
+ghost use Rattle.pv_types.specs.Known.{tree};
 ghost use Rattle.pv_typed.specs.TypedTree.{type_of, form_of, is_function};
-ghost use Rattle.pv_typed.specs.TypedUnits.{object_at, literal_at};
+ghost use Rattle.pv_typed.specs.TypedUnits.{object_at};
 ghost use Rattle.pv_typed.specs.Tables.{Stored, whole_unit};
 ghost use Rattle.pv_typed.specs.NodeTrees.{IsExpression, expression_at};
 ghost use Rattle.pv_typed.specs.Known.{AreKnown};
 ghost use Rattle.pv_typed.specs.Constants.{integer};
 ghost use Rattle.pv_typed.specs.Places.{IsNumber, IsPlace, IsDistance};
-ghost use Rattle.pv_typed.specs.Addresses.{size_in, within, bytes_on, signed_count, elements_on, address_sum, null_if, address, place, constant_of, is_null_constant, is_null, truth_in};
+ghost use Rattle.pv_typed.specs.Addresses.{size_in, within, bytes_on, signed_count, elements_on, null_if, address, place, constant_of, is_null_constant, truth_in};
 ghost use Rattle.pv_types.specs.Sorts.{pointed_by, is_pointer};
 ghost use Rattle.pv_typed.specs.AddressParts.{lasting_at, or_zero};
 

@@ -1,5 +1,5 @@
 //! Typing a translation unit (C17 6.9).
-ghost use Rattle.std.specs.Prelude.{◌≡◌, ◌<◌, ◌≤◌, ◌^◌, ◌&&◌, nat_lt, not, ℕ, List, map, length, Some, is_some, IsTrue, IfOk, IfErr, OnOk};
+ghost use Rattle.std.specs.Prelude.{◌≡◌, ◌<◌, ◌≤◌, ◌^◌, ◌&&◌, nat_lt, not, ℕ, List, map, Some, is_some, IsTrue, IfOk, IfErr, OnOk};
 ghost use Rattle.pv_token.specs.Table.{Table};
 ghost use Rattle.pv_tree.specs.Syntax.{DeclarationTree};
 ghost use Rattle.pv_types.specs.Known.{env};
@@ -10,7 +10,7 @@ ghost use Rattle.pv_typed.specs.Known.{AreKnown};
 ghost use Rattle.pv_typed.specs.Mains.{main_of};
 ghost use Rattle.pv_typed.specs.Tables.{whole_unit};
 ghost use Rattle.pv_check.specs.Open.{IsOpen, Texts};
-ghost use Rattle.pv_check.specs.Raw.{Raw, used_of};
+ghost use Rattle.pv_check.specs.Raw.{used_of};
 ghost use Rattle.pv_unit.specs.Checking.{externals_in, IsStop, IsResolved, IsLack, IsCause, IsNamed};
 ghost use Rattle.pv_unit.specs.Definitions.{may_end};
 ghost use Rattle.pv_unit.specs.Identifiers.{HasIdentifiers};

@@ -4,14 +4,13 @@ ghost use Rattle.pv_tree.specs.Tables.{Is, tree_at, specifier_at, declarator_at,
 ghost use Rattle.pv_tree.specs.Syntax.{Then, NoTrees};
 ghost use Rattle.pv_types.specs.Known.{Known, tree};
 ghost use Rattle.pv_check.specs.Stepping.{step_in, steps_in};
-ghost use Rattle.pv_check.specs.Raw.{raw_innermost};
 ghost use Rattle.pv_check.specs.Open.{IsOpen, Goes, Texts, state_in, IfAnswered};
 ghost use Rattle.pv_check.specs.Tags.{tag_alone};
 ghost use Rattle.pv_check.specs.Scopes.{innermost_scope};
 ghost use Rattle.pv_unit.specs.Declarations.{is_unsized, is_listed, has_list, only_tag, specified_by, type_declared, bound_in};
 ghost use Rattle.pv_unit.specs.DeclarationParts.{has_unsized};
 ghost use Rattle.pv_unit.specs.RuleParts.{composite_alone};
-ghost use Rattle.pv_unit.specs.DeclaredIn.{after_specified, after_declared, OpenOn, GoesOn, state_on};
+ghost use Rattle.pv_unit.specs.DeclaredIn.{after_specified, after_declared, state_on};
 
 use pv_check::{
     Scopes, Specified, Step, composite_named, concluded, derived_in, read_specifiers, steps_of,

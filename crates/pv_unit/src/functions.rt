@@ -1,10 +1,8 @@
 //! Function definitions and external declarations (C17 6.9, 6.9.1).
-ghost use Rattle.std.specs.Prelude.{◌≡◌, ◌<◌, ◌+◌, ◌++◌, ◌∷◌, [], false, length, IfOk, IfSome, OnOk, Some};
-ghost use Rattle.pv_tree.specs.Tables.{Is, HasList, declaration_at, declarator_at, statement_at as statement_of, trees_at, is_declarator, is_declaration, is_item, is_specifier, is_statement, tree_at, IsListOf};
+ghost use Rattle.std.specs.Prelude.{◌≡◌, ◌<◌, ◌+◌, [], false, length, IfOk, IfSome, OnOk, Some};
+ghost use Rattle.pv_tree.specs.Tables.{Is, HasList, declaration_at, statement_at as statement_of, is_declarator, is_declaration, is_item, is_specifier, is_statement, IsListOf};
 ghost use Rattle.pv_tree.specs.Syntax.{is_external};
-ghost use Rattle.pv_types.specs.Known.{tree};
 ghost use Rattle.pv_typed.specs.Known.{Each};
-ghost use Rattle.pv_typed.specs.Tables.{Stored};
 ghost use Rattle.pv_typed.specs.NodeTrees.{statement_at, IsStatement};
 ghost use Rattle.pv_check.specs.Declarators.{parameters_shown, ParameterKnown, SignatureKnown};
 ghost use Rattle.pv_check.specs.Open.{IsOpen, Goes, ScopeKnown, Texts, state_in};

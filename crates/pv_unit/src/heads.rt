@@ -1,9 +1,8 @@
 //! Heads of function definitions (C17 6.9.1).
-ghost use Rattle.std.specs.Prelude.{◌≡◌, ◌<◌, ◌&&◌, ◌||◌, not, IfOk, IfSome, OnOk, Some, None, true, false, length, is_some};
+ghost use Rattle.std.specs.Prelude.{◌≡◌, ◌<◌, ◌&&◌, ◌||◌, IfOk, IfSome, OnOk, Some, None, true, false, length, is_some};
 ghost use Rattle.pv_tree.specs.Tables.{Is, declarator_at, trees_at, is_declarator, is_specifier, IsListOf};
 ghost use Rattle.pv_types.specs.Known.{tree, env};
-ghost use Rattle.pv_types.specs.Layouts.{is_complete_in};
-ghost use Rattle.pv_check.specs.Derivations.{Signature as WholeSignature, derived_type};
+ghost use Rattle.pv_check.specs.Derivations.{Signature as WholeSignature};
 ghost use Rattle.pv_check.specs.Raw.{Raw};
 ghost use Rattle.pv_check.specs.Stepping.{steps_in, AreSteps};
 ghost use Rattle.pv_check.specs.Open.{IsOpen, Goes, Texts, state_in, IfAnswered};

@@ -1,5 +1,5 @@
 //! Names that have a meaning of their own (C17 5.1.2.2.1p1, 7.21.6.3p1).
-ghost use Rattle.std.specs.Prelude.{◌≡◌, ◌<◌, nat_eq, length, slice_index_or};
+ghost use Rattle.std.specs.Prelude.{◌≡◌, ◌<◌};
 ghost use Rattle.pv_check.specs.Texts.{same_text, has_text};
 ghost use Rattle.pv_check.specs.PrintfFormats.{is_printf};
 ghost use Rattle.pv_typed.specs.Mains.{named_main};

@@ -1,5 +1,5 @@
 //! The types of the library's functions (C17 7.21.6.3, 7.22.3, 7.22.4, 7.24), in a table of types.
-ghost use Rattle.std.specs.Prelude.{◌≡◌, ◌<◌, length, map, IfOk, OnOk};
+ghost use Rattle.std.specs.Prelude.{◌≡◌, ◌<◌, length, IfOk, OnOk};
 ghost use Rattle.pv_num.specs.declared.kinds.IntKind.TheVariants.{Char};
 ghost use Rattle.pv_types.specs.Ty.{FunctionTy, IntTy, PointerTo, VoidTy};
 ghost use Rattle.pv_types.specs.Known.{tree, trees, tys_in};

@@ -1,5 +1,5 @@
 //! Objects and functions in the tables, and their names in the innermost scope (C17 6.2.1, 6.7).
-ghost use Rattle.std.specs.Prelude.{◌≡◌, ◌<◌, ◌+◌, ◌++◌, ◌∷◌, [], Bool, None, Some, IfOk, IfSome, IsTrue, OnOk, true, if◌then◌else◌, length};
+ghost use Rattle.std.specs.Prelude.{◌≡◌, ◌<◌, ◌+◌, Bool, None, Some, IfOk, IfSome, IsTrue, OnOk, true, if◌then◌else◌, length};
 ghost use Rattle.pv_types.specs.Known.{tree};
 ghost use Rattle.pv_types.specs.Compatible.{are_compatible};
 ghost use Rattle.pv_typed.specs.Known.{AreKnown};

@@ -3,7 +3,6 @@ ghost use Rattle.std.specs.Prelude.{◌≡◌, ◌<◌, IfOk, OnOk, None, length
 ghost use Rattle.pv_types.specs.Known.{tree};
 ghost use Rattle.pv_tree.specs.Tables.{Is, tree_at, trees_at, declaration_at, initializer_at, is_declaration, is_declarator, is_initializer, is_specifier, IsListOf, IsOptionalOf};
 ghost use Rattle.pv_check.specs.Open.{IsOpen, Goes};
-ghost use Rattle.pv_typed.specs.Constants.{and_then};
 ghost use Rattle.pv_unit.specs.Declarations.{object_initialized, given_entity, file_init_declarator, file_declarators, only_tag, file_alone, file_declaration};
 ghost use Rattle.pv_unit.specs.DeclarationParts.{file_declared};
 ghost use Rattle.pv_unit.specs.DeclaredIn.{OpenOn, GoesOn, specified_in, type_in};

@@ -1,7 +1,7 @@
 // The parts of an object that initializers are for.
 ghost use Rattle.std.specs.Prelude.{◌≡◌, ◌<◌, ◌≤◌, ◌+◌, ◌*◌, ◌^◌, length, IsTrue, is_some, option_map, false, true};
 ghost use Rattle.pv_types.specs.Known.{tree, trees, tree_in, env};
-ghost use Rattle.pv_types.specs.Formed.{members_in, is_union_in, completions, PartsBelow, IsTagged, IsBuilt};
+ghost use Rattle.pv_types.specs.Formed.{is_union_in, completions, PartsBelow, IsTagged, IsBuilt};
 ghost use Rattle.pv_types.specs.Sorts.{bare_type, is_scalar};
 ghost use Rattle.pv_types.specs.Layouts.{layout_in, is_complete_in, look};
 ghost use Rattle.pv_types.specs.LayoutParts.{or_none};

@@ -1,13 +1,13 @@
 //! Names that nothing defines (C17 6.9p5), `main` (C17 5.1.2.2.1), and static objects (C17 6.2.4p3).
-ghost use Rattle.std.specs.Prelude.{◌≡◌, ◌<◌, ◌&&◌, ◌||◌, not, nat_eq, ℕ, Bool, true, false, length, map, None, Some, is_some, IfOk, OnOk, slice_index_or};
+ghost use Rattle.std.specs.Prelude.{◌≡◌, ◌<◌, ◌&&◌, ◌||◌, nat_eq, ℕ, Bool, true, false, length, map, None, Some, is_some, IfOk, OnOk};
 ghost use Rattle.std.specs.Cmp.Lexicographic.{pointwise};
 ghost use Rattle.pv_typed.specs.Formed.{Grown};
 ghost use Rattle.pv_typed.specs.Known.{AreKnown};
 ghost use Rattle.pv_typed.specs.Mains.{main_text};
 ghost use Rattle.pv_typed.specs.Tables.{whole_unit};
 ghost use Rattle.pv_typed.specs.TypedUnits.{object_at, function_at};
-ghost use Rattle.pv_check.specs.Open.{IsOpen, Texts, state_in};
-ghost use Rattle.pv_check.specs.Raw.{Raw, used_of};
+ghost use Rattle.pv_check.specs.Open.{Texts, state_in};
+ghost use Rattle.pv_check.specs.Raw.{used_of};
 ghost use Rattle.pv_unit.specs.Entering.{entity_of};
 ghost use Rattle.pv_unit.specs.Resolving.{has_use, AreUses, ArePointed, placed_if};
 ghost use Rattle.pv_unit.specs.Units.{uses, is_unresolved, first_unresolved, has_main, statics_from, points, placed_from, with_statics, with_placed};

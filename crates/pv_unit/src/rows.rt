@@ -1,6 +1,6 @@
 //! Parts of statements that hold no statements (C17 6.8).
-ghost use Rattle.std.specs.Prelude.{false, ◌≡◌, ◌<◌, ◌&&◌, ◌==◌, length, IfOk, OnOk, Some};
-ghost use Rattle.pv_tree.specs.Tables.{expression_at as expression_of, statement_at as statement_of, tree_at, optional_at, is_expression, is_statement, Is, IsOptionalOf};
+ghost use Rattle.std.specs.Prelude.{false, ◌≡◌, ◌<◌, length, IfOk, OnOk, Some};
+ghost use Rattle.pv_tree.specs.Tables.{expression_at as expression_of, optional_at, is_expression, is_statement, Is, IsOptionalOf};
 ghost use Rattle.pv_types.specs.Known.{tree};
 ghost use Rattle.pv_typed.specs.TypedTree.{type_of};
 ghost use Rattle.pv_typed.specs.NodeTrees.{expression_at, IsExpression, IsStatement};
@@ -8,7 +8,6 @@ ghost use Rattle.pv_check.specs.Arms.{after_node};
 ghost use Rattle.pv_check.specs.Kept.{expression_if};
 ghost use Rattle.pv_check.specs.Open.{IsOpen, Texts, state_in, KeepsState, IfAnswered};
 ghost use Rattle.pv_types.specs.Sorts.{kind_of, is_scalar};
-ghost use Rattle.pv_check.specs.State.{give};
 ghost use Rattle.pv_typed.specs.Constants.{and_then};
 ghost use Rattle.pv_check.specs.Values.{as_if_assigned, promoted_value};
 ghost use Rattle.pv_unit.specs.Stated.{stated_if, optional_if, IsOptional, Moves, value_in};

@@ -1,5 +1,5 @@
 // The shape that an initializer has.
-ghost use Rattle.std.specs.Prelude.{◌≡◌, ◌<◌, length, option_map, All};
+ghost use Rattle.std.specs.Prelude.{◌≡◌, ◌<◌, length, option_map};
 ghost use Rattle.pv_types.specs.Known.{tree};
 ghost use Rattle.pv_types.specs.Formed.{completions};
 ghost use Rattle.pv_tree.specs.Tables.{expression_at, initializer_at, trees_at, is_expression, is_initializer, Is, IsListOf};

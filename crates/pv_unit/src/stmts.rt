@@ -3,7 +3,7 @@ ghost use Rattle.std.specs.Prelude.{false, ◌≡◌, [], ◌<◌, true, length,
 ghost use Rattle.pv_tree.specs.Tables.{expression_at as expression_of, statement_at as statement_of, tree_at, trees_at, is_expression, is_statement, is_declaration, is_item, Is, HasList, Has, IsOptionalOf};
 ghost use Rattle.pv_tree.specs.Syntax.{Block, If, IfElse, While, DoWhile, Switch, Labelled};
 ghost use Rattle.pv_tree.specs.TreeLines.{tree_line};
-ghost use Rattle.pv_typed.specs.NodeTrees.{statement_at, IsStatement};
+ghost use Rattle.pv_typed.specs.NodeTrees.{IsStatement};
 ghost use Rattle.pv_check.specs.Open.{IsOpen, state_in, IfAnswered};
 ghost use Rattle.pv_unit.specs.TypedStatements.{typed_statement, typed_items, typed_item, switch_block};
 ghost use Rattle.pv_unit.specs.Scoped.{inner, scoped_statement, has_scope, switch_body};

@@ -1,7 +1,7 @@
 //! The seats of a hall.
 ghost use Rattle.std.specs.Prelude.{◌≡◌, map, IfOk, OnOk};
 ghost use Rattle.std.specs.List.{filter, AllZip};
-ghost use Rattle.pv_watch.specs.Slots.{slot, slots, watcher, After, Says, SayAll, kind_number, is_kept};
+ghost use Rattle.pv_watch.specs.Slots.{slot, slots, watcher, After, SayAll, kind_number, is_kept};
 ghost use Rattle.pv_watch.specs.Adding.{Adds};
 
 use crate::NoMemory;

@@ -4,10 +4,10 @@ ghost use Rattle.pv_inst.specs.Table.{IsMadeIn};
 ghost use Rattle.pv_object.specs.Later.{IsLater};
 ghost use Rattle.pv_object.specs.Operations.{recast};
 ghost use Rattle.pv_world.specs.Hows.{IsHow};
-ghost use Rattle.pv_world.specs.Worths.{why_not_set, int_of, pointer_of};
+ghost use Rattle.pv_world.specs.Worths.{int_of, pointer_of};
 ghost use Rattle.pv_world.specs.Preconditions.{IsSmall};
 ghost use Rattle.pv_world.specs.Suiting.{where_suiting, is_convertible};
-ghost use Rattle.pv_world.specs.Conversions.{converts, recast_by, passes};
+ghost use Rattle.pv_world.specs.Conversions.{converts, recast_by};
 ghost use Rattle.pv_world.specs.Coming.{worth_of, IsMadeWorth, KeepsAllButMemory, GivesMade, DidAndTold};
 
 use crate::failing::{blame_of, fail, stopped_after};

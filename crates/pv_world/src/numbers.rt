@@ -5,7 +5,7 @@ ghost use Rattle.pv_object.specs.Later.{IsLater};
 ghost use Rattle.pv_object.specs.Operations.{to_int, to_ptr};
 ghost use Rattle.pv_world.specs.Worlds.{with_table};
 ghost use Rattle.pv_world.specs.Telling.{exposures, all_told};
-ghost use Rattle.pv_world.specs.Worths.{why_not_set, int_of, pointer_of};
+ghost use Rattle.pv_world.specs.Worths.{int_of, pointer_of};
 ghost use Rattle.pv_world.specs.Conversions.{converts, number_by, pointer_by_number};
 ghost use Rattle.pv_world.specs.Coming.{worth_of, IsMadeWorth, KeepsAllButMemory, GivesMade, DidAndTold, Tells};
 

@@ -7,7 +7,6 @@ ghost use Rattle.pv_object.specs.Answers.{IsMadeValue};
 ghost use Rattle.pv_object.specs.Encoding.{size_of, encode};
 ghost use Rattle.pv_world.specs.Objects.{instance_of, fills_object, put_at, base_in};
 ghost use Rattle.pv_world.specs.Preconditions.{HasRoom};
-ghost use Rattle.pv_world.specs.Telling.{event_of_making};
 ghost use Rattle.pv_watch.specs.declared.event.What.{What};
 ghost use Rattle.pv_world.specs.Coming.{Did, no_worth};
 
