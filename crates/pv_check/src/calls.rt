@@ -312,7 +312,8 @@ fn call_with(
     requires list { params < length into.old.known.lists }
     requires nodes { Each (IsExpression into.old) args.now }
     ensures node { IfAnswered result (IsExpression into.new) }
-    ensures typed { IfOk result (λ r. expression_if into.new r ≡ called_by_name (whole_unit into.old) line f (tree into.old.known t.0) (passed_arguments (parameters_at into.old.known params) variadic (map (expression_at into.old) args.now))) }
+    ensures typed { IfOk result (λ r. expression_if into.new r ≡ called_by_name (whole_unit into.old) line f (tree into.old.known t.0)
+        (passed_arguments (parameters_at into.old.known params) variadic (map (expression_at into.old) args.now))) }
     ensures kept { OnOk result (Kept into.old into.new) }
 {
     let Ok(types) = Vec::from_slice(alloc, into.types().param_list(params)) else {
@@ -368,7 +369,8 @@ fn call_pointer(
     requires list { params < length into.old.known.lists }
     requires nodes { Each (IsExpression into.old) args.now }
     ensures node { IfAnswered result (IsExpression into.new) }
-    ensures typed { IfOk result (λ r. expression_if into.new r ≡ pointed_call line (expression_at into.old a) (tree into.old.known t.0) (passed_arguments (parameters_at into.old.known params) variadic (map (expression_at into.old) args.now))) }
+    ensures typed { IfOk result (λ r. expression_if into.new r ≡ pointed_call line (expression_at into.old a) (tree into.old.known t.0)
+        (passed_arguments (parameters_at into.old.known params) variadic (map (expression_at into.old) args.now))) }
     ensures kept { OnOk result (Kept into.old into.new) }
 {
     let types = Vec::from_slice(alloc, into.types().param_list(params))?;

@@ -82,7 +82,8 @@ pub fn begin_function(
 ) -> Result<(), Failure>
     requires runnable { IsRunnable unit.now }
     requires there { f < length unit.now.functions }
-    ensures made { Always unit.now machine.old.moment (λ b out es. Made (body_beginning b line (function_at (whole_unit unit.now) f) (map worth_of arguments.now) (state_of machine.old.moment out es)) result (state_of machine.new.moment out es)) }
+    ensures made { Always unit.now machine.old.moment (λ b out es. Made
+        (body_beginning b line (function_at (whole_unit unit.now) f) (map worth_of arguments.now) (state_of machine.old.moment out es)) result (state_of machine.new.moment out es)) }
     ensures started { machine.new.started ≡ machine.old.started }
     ensures stays { Stays machine.old.moment machine.new.moment }
 {

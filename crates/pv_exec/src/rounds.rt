@@ -96,7 +96,8 @@ pub fn begin_body(
 pub fn round_goes_on(unit: &TypedUnit, n: NodeId, machine: &mut Machine) -> Result<Way, Failure>
     requires there { IsStatement unit.now n }
     requires fit { Fit unit.now machine.old.started }
-    ensures led { (b : Setting) (k : ℕ) (s : State) → s.taken ≤ b.bound → b.bound < s.taken + k → LeadsOr b unit.now (left_flow (stepped_on b (below b k) (loop_of (statement_at unit.now n)) s)) machine.old.started result machine.new.started s }
+    ensures led { (b : Setting) (k : ℕ) (s : State) → s.taken ≤ b.bound → b.bound < s.taken + k →
+        LeadsOr b unit.now (left_flow (stepped_on b (below b k) (loop_of (statement_at unit.now n)) s)) machine.old.started result machine.new.started s }
     ensures moment { machine.new.moment ≡ machine.old.moment }
     ensures fit { OnOk result (Fit unit.now machine.new.started) }
     ensures ways { WayFitsOr unit.now machine.old.started machine.new.started result }
@@ -124,7 +125,8 @@ fn behind_body(step: Option<NodeId>, parts: RoundParts) -> Doing
 pub fn go_round(unit: &TypedUnit, n: NodeId, machine: &mut Machine) -> Result<Way, Failure>
     requires there { IsStatement unit.now n }
     requires fit { Fit unit.now machine.old.started }
-    ensures led { (b : Setting) (k : ℕ) (s : State) → s.taken ≤ b.bound → b.bound < s.taken + k → LeadsOr b unit.now (left_flow (stepped_on b (below b k) (loop_of (statement_at unit.now n)) s)) machine.old.started result machine.new.started s }
+    ensures led { (b : Setting) (k : ℕ) (s : State) → s.taken ≤ b.bound → b.bound < s.taken + k →
+        LeadsOr b unit.now (left_flow (stepped_on b (below b k) (loop_of (statement_at unit.now n)) s)) machine.old.started result machine.new.started s }
     ensures moment { machine.new.moment ≡ machine.old.moment }
     ensures fit { OnOk result (Fit unit.now machine.new.started) }
     ensures ways { WayFitsOr unit.now machine.old.started machine.new.started result }

@@ -195,7 +195,8 @@ impl World {
         told: &mut Vec<What>,
     ) -> Result<Got, Failure>
         requires size { HasSizeOf shape size }
-        ensures did { DidAndTold worth_of (where_suiting (has_part (worth_of v.now) offset size && knows_worth self.old.memory.table (worth_of v.now)) (takes_bytes offset size shape (worth_of v.now))) result self.old self.new told.old told.new }
+        ensures did { DidAndTold worth_of (where_suiting (has_part (worth_of v.now) offset size && knows_worth self.old.memory.table (worth_of v.now))
+            (takes_bytes offset size shape (worth_of v.now))) result self.old self.new told.old told.new }
         ensures later { IsLater self.old.memory.table self.new.memory.table }
         ensures memory { KeepsAllButMemory self.old self.new }
         ensures made { GivesMade self.new result }
