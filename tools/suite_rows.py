@@ -106,6 +106,7 @@ def try_calls(tried, program):
     log = json.loads(read("sarif"))
     check_sarif(tried, "no list", log)
     tried.same("no list: SARIF", [], log["runs"][0]["results"])
+    tried.same("no program", (2, b""), call("list", "--program", "./gone"))
     for words in ((), ("a", "b"), ("list", "--jobs", "0"), ("list", "--none")):
         tried.same(f"words {words}", (2, b""), call(*words))
     with open("report", "wb") as file:
