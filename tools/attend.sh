@@ -56,6 +56,15 @@ end_by() {
 # How many kilobytes of stack are enough for every program, with room to spare.
 stack_enough=1024
 
+# A program with checks at run time takes some twenty times the stack of a proved one. Gives it what the source of the greatest depth
+# needs with room to spare, or as much as this shell may.
+give_trial_stack() {
+  local stack wanted=262144
+  stack=$(ulimit -S -s)
+  [ "$stack" = unlimited ] || [ "$stack" -ge "$wanted" ] ||
+    ulimit -S -s "$wanted" 2>/dev/null || ulimit -S -s "$(ulimit -H -s)" 2>/dev/null || :
+}
+
 # Says which signal ended the program, by its status, and what that comes from where it is known.
 tell_signal() {
   local name stack why=''

@@ -34,6 +34,7 @@ try_meanwhile() {
   unproved=yes
   program=$("$tools/unproved" pvrun 2>"$held/said") || exit
   export ASAN_OPTIONS=exitcode=125
+  give_trial_stack
   {
     tell_beside 'NOT PROVED, but tried before the proofs; the proved answer follows on standard output when they are done:'
     run | sed 's/^/  /'
