@@ -1,0 +1,13 @@
+/* `strcpy`: 2 rounds of 65536 bytes */
+void *memset(void *, int, unsigned long);
+char *strcpy(char *, const char *);
+char a[65537], b[65537];
+
+int main(void) {
+  memset(a, 65, 65536ul);
+  memset(b, 65, 65536ul);
+  int s = 0;
+  for (int r = 0; r < ROUNDS; r++)
+    s += strcpy(a, b) != a;
+  return s != 0;
+}
