@@ -1,4 +1,4 @@
-/* recursion (14th number of Fibonacci): 8 rounds */
+/* recursion (the 13th and the 14th number of Fibonacci): 10 rounds */
 int fib(int n) {
   if (n < 2)
     return n;
@@ -8,6 +8,6 @@ int fib(int n) {
 int main(void) {
   int s = 0;
   for (int r = 0; r < ROUNDS; r++)
-    s = (s + fib(14)) % 100;
+    s = (s + fib(13 + r % 2)) % 100;
   return s;
 }
