@@ -118,7 +118,7 @@ def of_others(tests: Tests, tool) -> None:
 
 def of_forms(tests: Tests, tool) -> None:
     """Numbers, sizes and rows are printed as they are read."""
-    numbers = [(None, "?"), (0.0, "0"), (3.14159, "3.14"), (31.4159, "31.4"), (314.159, "314")]
+    numbers = [(None, "?"), (0.0, "0"), (0.004, "< 0.01"), (3.14159, "3.14"), (31.4159, "31.4"), (314.159, "314")]
     tests.holds("numbers", all(tool.number(x) == text for x, text in numbers))
     sizes = [(2**20, "2^20"), (160000, "16 * 10^4"), (10**6, "10^6"), (64, "64"), (250, "250"), (1000, "1000")]
     tests.holds("sizes", all(tool.sized(n) == text for n, text in sizes))

@@ -1,5 +1,6 @@
 /* an allocated array of `int`: 80 rounds */
 void *malloc(unsigned long);
+void free(void *);
 
 int main(void) {
   int *a = malloc(64 * sizeof *a);
@@ -11,5 +12,6 @@ int main(void) {
       a[i] = a[i] + 1;
       s = (s + a[i]) % 1000;
     }
+  free(a);
   return s % 100;
 }

@@ -4,6 +4,7 @@ struct n {
   struct n *next;
 };
 void *malloc(unsigned long);
+void free(void *);
 
 int main(void) {
   struct n *h = 0;
@@ -17,5 +18,10 @@ int main(void) {
   for (int r = 0; r < ROUNDS; r++)
     for (struct n *p = h; p; p = p->next)
       s = (s + p->v) % 1000;
+  while (h) {
+    struct n *next = h->next;
+    free(h);
+    h = next;
+  }
   return s % 100;
 }
