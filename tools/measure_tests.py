@@ -118,12 +118,13 @@ def of_others(tests: Tests, tool) -> None:
 
 def of_forms(tests: Tests, tool) -> None:
     """Numbers, sizes and rows are printed as they are read."""
-    numbers = [(None, "?"), (0.0, "0"), (0.004, "< 0.01"), (3.14159, "3.14"), (31.4159, "31.4"), (314.159, "314")]
+    numbers = [(None, "?"), (0.0, "< 0.01"), (0.004, "< 0.01"), (3.14159, "3.14"), (31.4159, "31.4"), (314.159, "314")]
     tests.holds("numbers", all(tool.number(x) == text for x, text in numbers))
-    sizes = [(2**20, "2^20"), (160000, "16 * 10^4"), (10**6, "10^6"), (64, "64"), (250, "250"), (1000, "1000")]
+    sizes = [(2**20, "2^20"), (160000, "160000"), (10**6, "10^6"), (64, "64"), (1024, "1024"), (1000, "1000"), (8192, "2^13")]
     tests.holds("sizes", all(tool.sized(n) == text for n, text in sizes))
     tests.holds("twice for twice", tool.power((1, 2, 4), [0.1, 0.2, 0.4]) == "1.0")
     tests.holds("four times for twice", tool.power((1, 2, 4), [0.1, 0.4, 1.6]) == "2.0")
+    tests.holds("much room and little", tool.room(5000.0) == "5000" and tool.room(1.0).startswith("< "))
     tests.holds("too short", tool.power((1, 2, 4), [0.001, 0.1, 0.4]) == "-")
     tests.holds("no first line", fails(tool, lambda: tool.program_of("a.c", "int x;\n")))
     said = io.StringIO()

@@ -1,4 +1,4 @@
-/* recursion (the 13th and the 14th number of Fibonacci): 10 rounds */
+/* recursion (numbers of Fibonacci): 10 rounds */
 int fib(int n) {
   if (n < 2)
     return n;

@@ -1,4 +1,4 @@
-/* a binary tree of 100 nodes by pointers, recursion: 8 rounds */
+/* a binary tree of 100 nodes, recursion: 8 rounds */
 struct n {
   int v;
   struct n *l, *r;
