@@ -12,7 +12,7 @@ import importlib.util
 import os
 import re
 import subprocess
-from typing import Iterator, NamedTuple, Optional
+from typing import Iterator, NamedTuple, Optional, Tuple
 
 HERE = os.path.dirname(os.path.realpath(__file__))
 BOUND = "1000000"
@@ -38,13 +38,33 @@ class Place(NamedTuple):
     brace: Optional[int]
 
 
+class Begun:
+    """Which `do` of those without braces have still to come to their `while`, in each block that is open."""
+
+    def __init__(self) -> None:
+        self.waiting: "list[int]" = [0]
+
+    def is_end_of_do(self, token: bytes) -> bool:
+        """Whether a token behind a statement is the `while` of a `do`, which no other statement may part from it."""
+        if token != b"while" or not self.waiting[-1]:
+            return False
+        self.waiting[-1] -= 1
+        return True
+
+    def take(self, last: bytes, token: bytes, depth: int) -> None:
+        """Takes a token, the one before it, and how many braces are open behind it."""
+        self.waiting[-1] += last == b"do" and token != b"{"
+        self.waiting = [*self.waiting, *[0] * (depth + 1)][: depth + 1]
+
+
 def statements(source: bytes) -> Iterator[Place]:
     """The places of the statements of blocks."""
-    reader, opened, brace = SPOT.Reader(), False, None
+    reader, begun, opened, brace = SPOT.Reader(), Begun(), False, None
     for at, token in SPOT.tokens_of(source):
-        if opened and token not in (b"else", b"case", b"default", b"}"):
+        if opened and token not in (b"else", b"case", b"default", b"}") and not begun.is_end_of_do(token):
             yield Place(at, brace)
-        ended = reader.take(token)
+        last, ended = reader.last, reader.take(token)
+        begun.take(last, token, len(reader.braces))
         in_block = bool(reader.braces) and set(reader.braces) <= {"block", "do"}
         opened = in_block and (ended in ("statement", "opened") or token == b"{")
         brace = at if opened and token == b"{" and len(reader.braces) == 1 else None
@@ -64,6 +84,10 @@ def without_place(event: str) -> str:
     return re.sub(r" (base|address)=\S+", "", event)
 
 
+# The place of a statement, and the frame that called its function.
+Frame = Tuple[int, Optional["Frame"]]
+
+
 class Lines:
     """The source's lines, and which turn is in which of them."""
 
@@ -71,9 +95,9 @@ class Lines:
         with open(text, "rb") as file:
             self.source = file.read()
         self.name = name
-        # from each of these turns on, up to the next one, the run was in the statement at this place
+        # from each of these turns on, up to the next one, the run was in the statement of this frame
         self.turns: "list[int]" = []
-        self.places: "list[int]" = []
+        self.frames: "list[Frame]" = []
         # the last turn of which that is known
         self.last = 0
         if replay and b"pv_at_" not in self.source and b"pv_in_" not in self.source:
@@ -89,19 +113,19 @@ class Lines:
 
     def follow(self, own: "list[str]", more: "list[str]", places: "list[Place]") -> None:
         """Takes the journal of the second text event by event, beside that of the source."""
-        before, waiting, seen = 0, [], 0
+        before, waiting, seen = 0, None, 0
         for line in more:
             probe = PROBE.match(line)
             if probe and probe[1] == "create":
                 place, turn = places[int(probe[3])], int(probe[4]) - before - 1
                 before += probe[2] == "at"
                 # (the turn of a function's block is taken before its objects are made)
-                waiting = [*waiting, place.brace] if probe[2] == "in" else [*waiting[:-1], place.at]
-                self.enter(turn, waiting[-1])
+                waiting = (place.brace, waiting) if probe[2] == "in" else (place.at, waiting and waiting[1])
+                self.enter(turn, waiting)
             elif probe and probe[2] == "in":
-                waiting.pop()
+                waiting = waiting and waiting[1]
                 if waiting:
-                    self.enter(int(probe[4]) - before, waiting[-1])
+                    self.enter(int(probe[4]) - before, waiting)
             elif not probe:
                 event = EVENT.match(line)
                 wanted = own[seen] if seen < len(own) else ""
@@ -110,22 +134,28 @@ class Lines:
                 self.last = int(event[2]) - before if event else int(BOUND)
                 seen += 1
 
-    def enter(self, turn: int, place: int) -> None:
-        """From here on the run is in the statement at this place."""
+    def enter(self, turn: int, frame: Frame) -> None:
+        """From here on the run is in the statement of this frame."""
         self.turns.append(turn)
-        self.places.append(place)
+        self.frames.append(frame)
         self.last = max(self.last, turn)
 
-    def place_at(self, turn: int) -> Optional[int]:
-        """The place of the statement in which a turn is, where that is known."""
-        at = bisect.bisect_left(self.turns, turn) - 1
-        return self.places[at] if at >= 0 and turn <= self.last else None
+    def places_at(self, turn: int) -> "list[int]":
+        """The places of the statements in which a turn is, the innermost one first, where they are known."""
+        at, places = bisect.bisect_left(self.turns, turn) - 1, []
+        frame = self.frames[at] if at >= 0 and turn <= self.last else None
+        while frame:
+            places.append(frame[0])
+            frame = frame[1]
+        return places
 
     def beside(self, turn: int) -> str:
         """The source's line that a turn is in: its file, its number and its text; empty where it isn't known."""
-        place = self.place_at(turn)
-        if place is None:
-            return ""
+        at = bisect.bisect_left(self.turns, turn) - 1
+        return self.shown(self.frames[at][0]) if at >= 0 and turn <= self.last else ""
+
+    def shown(self, place: int) -> str:
+        """A place's file, its line and the text of that."""
         begin = self.source.rfind(b"\n", 0, place) + 1
         end = self.source.find(b"\n", place)
         text = SPOT.shown(self.source[begin : end if end >= 0 else len(self.source)][:200])

@@ -1,4 +1,5 @@
 """The self-test of tools/step: what is shown of runs whose turns were worked out by hand or by an independent executor of the same rules."""
+import glob
 import os
 import subprocess
 import sys
@@ -43,6 +44,23 @@ int main(void) {
 }
 """
 MARKED = '# 7 "b.h"\nint x;\n# 2 "a.c" 2\nint main(void) {\n  x = 3;\n  return x;\n}\n'
+# Each statement that may stand without braces, and a `do` within each of them; what stands in a row begins where its number says.
+BARE = """int main(void) {
+  int v = 3, w = 2;
+  do v--; while (v);
+  do do w--; while (w > 1); while (v);
+  do while (w) w--; while (v);
+  do if (v) v--; else w--; while (w > 0);
+  do if (v) { v--; } while (v);
+  do { do v++; while (v < 3); v = 3; } while (v < 3);
+  if (v) do v--; while (v); else w = 1;
+  for (v = 0; v < 2; v++) do w++; while (w < 3);
+  while (w) w--;
+  switch (w) { case 0: do w++; while (w < 2); break; default: w = 9; }
+  return v;
+}
+"""
+BARE_BEGUN = "2 int, 3 do, 4 do, 5 do, 6 do, 7 do, 7 v--;, 8 do, 8 do, 8 v, 9 if, 10 for, 11 while, 12 switch, 12 break;, 13 return"
 # It asks where its objects lie, and goes another way where more of them are made.
 ASKS = """int main(void) {
   int a;
@@ -115,8 +133,33 @@ def lines_told(tests: Tests) -> "Iterator[tuple[str, object, object]]":
     wanted = [b"int m ", b"return", b"int i,", b"for (i", b"s = s ", b"if (s ", b"do {\n ", b"s--;\n ", b"switch", b"break;", b"return"]
     names = [text[at : at + 6] for at, _ in statements(text)]
     yield "statements", wanted, names
+    bare = BARE.encode()
+    begun = [f"{bare[:at].count(10) + 1} {bare[at:].split()[0].decode()}" for at, _ in statements(bare)]
+    yield "statements without braces", BARE_BEGUN, ", ".join(begun)
+    told = tests.told(BARE, "go 9\ngo 400\n")
+    yield "lines where a do has no braces", "0\nturn 9 running a.c:3: do v--; while (v);\nexit status=2 turn=177 a.c:13: return v;", told
     yield "the source stands in the second text", True, b"{ char pv_at_2; } int i, s = 0;" in probed(text, list(statements(text)))
     yield "without a program no lines", "", Lines("", tests.file("b.c", ENDED), "b.c", []).beside(3)
+
+
+def status_of(tests: Tests, name: str, text: bytes) -> int:
+    """The status of pv_replay for one turn of a text: that of a refusal, or 0."""
+    path = os.path.join(tests.room, name)
+    with open(path, "wb") as file:
+        file.write(text)
+    words = [tests.programs[1], "write", path, "--turns", "1"]
+    return subprocess.run(words, stdout=subprocess.DEVNULL, check=False).returncode
+
+
+def sources_taken(tests: Tests) -> "Iterator[tuple[str, object, object]]":
+    """Each source of the repository is a program with its blocks in front of its statements too."""
+    for source in sorted(glob.glob(f"{HERE}/../examples/*.c") + glob.glob(f"{HERE}/*-programs/*.c")):
+        text = os.path.join(tests.room, "text.i")
+        if subprocess.run([f"{HERE}/preprocess", source, text], stderr=subprocess.DEVNULL, check=False).returncode == 0:
+            with open(text, "rb") as file:
+                plain = file.read()
+            status = status_of(tests, "own.i", plain)
+            yield os.path.basename(source), status, status_of(tests, "probed.i", probed(plain, list(statements(plain))))
 
 
 def self_test(folder: Optional[str] = None) -> int:
@@ -127,7 +170,7 @@ def self_test(folder: Optional[str] = None) -> int:
         if not os.access(tests.programs[0], os.X_OK):
             print(f"step: there is no program {tests.programs[0]}", file=sys.stderr)
             return 1
-        for rows in (commands_told(tests), lines_told(tests)):
+        for rows in (commands_told(tests), lines_told(tests), sources_taken(tests)):
             for words, wanted, got in rows:
                 passed += wanted == got
                 failed += wanted != got
