@@ -3,11 +3,17 @@
 A part goes to a machine as one file: the program, the part's list, and the files that its cases name. What comes back is the report and
 the status; nothing stays there.
 """
+import io
 import os
 import shutil
 import subprocess
 import tarfile
 import tempfile
+
+import suite_calls
+
+# Where the texts of sources that were preprocessed here lie there.
+TEXTS = b"texts.i"
 
 # What a machine does with a part, in the words of GNU parallel: {} is the part's file, {.} the same without its end, {/.} that without
 # its folder.
@@ -36,37 +42,41 @@ def hosts_in(name):
     return count
 
 
-def files_of(lines):
-    """Returns the files that the cases of these lines name. They must lie below the folder where the list is run."""
-    names = set()
-    for line in lines:
-        words = [] if line.startswith(b"#") else line.split(b" ", 4)
-        names.update(word for word in words[:3] if len(words) == 5 and word != b"-")
-    for name in names:
-        if name.startswith(b"/") or b".." in name.split(b"/"):
-            raise Fault(f"{os.fsdecode(name)} lies elsewhere: with --hosts a list names files below the folder where it is run")
-    return sorted(name for name in names if os.path.isfile(name))
+def file_named(name, room):
+    """Returns what a file of a case is called there: it lies below the folder where the list is run, or was made in the room of this call."""
+    if name.startswith(room + b"/"):
+        return TEXTS + name[len(room) :]
+    if name.startswith(b"/") or b".." in name.split(b"/"):
+        raise Fault(f"{os.fsdecode(name)} lies elsewhere: with --hosts a list names files below the folder where it is run")
+    return name
 
 
-def bundle(part, program, to):
+def bundle(part, program, to, room):
     """Writes the file with which a part goes to a machine."""
-    with tempfile.NamedTemporaryFile() as text, tarfile.open(to, "w") as file:
-        text.write(b"\n".join(part))
-        text.flush()
-        file.add(text.name, "list")
+    lines, names = [], {}
+    for line in part:
+        words = line.split(b" ", 4)
+        named = [word if word == b"-" else file_named(word, room) for word in words[:3]]
+        names.update(zip(named, words))
+        lines.append(b" ".join([*named, *words[3:]]) + b"\n")
+    with tarfile.open(to, "w") as file:
+        head = tarfile.TarInfo("list")
+        head.size = sum(map(len, lines))
+        file.addfile(head, io.BytesIO(b"".join(lines)))
         file.add(os.path.realpath(program), "program")
-        for name in files_of(part):
-            file.add(name, os.fsdecode(name))
+        for there, here in sorted(names.items()):
+            if there != b"-" and os.path.isfile(here):
+                file.add(os.fsdecode(here), os.fsdecode(there))
 
 
-def answers(parts, program, hosts, jobs):
+def answers(parts, program, hosts, jobs, texts):
     """Returns the status and the report of each part, or None where none came back."""
     room = tempfile.mkdtemp(prefix="valumeiro-suite-")
     try:
         names = [os.path.join(os.path.basename(room), str(index)) for index in range(len(parts))]
         above = os.path.dirname(room)
         for part, name in zip(parts, names):
-            bundle(part, program, os.path.join(above, f"{name}.tar"))
+            bundle(part, program, os.path.join(above, f"{name}.tar"), os.fsencode(texts))
         words = ["parallel", "--will-cite", "--sshloginfile", os.path.abspath(hosts), "--jobs", str(jobs), "--transferfile", "{}"]
         words += ["--return", "{.}.out", "--return", "{.}.status", "--cleanup", THERE, ":::", *(f"{name}.tar" for name in names)]
         subprocess.run(words, cwd=above, stdin=subprocess.DEVNULL, stdout=subprocess.DEVNULL, check=False)
@@ -82,3 +92,12 @@ def answer(name):
             return int(status.read()), report.read()
     except (OSError, ValueError):
         return None
+
+
+def run(program, lines, jobs, hosts, texts):
+    """Runs the lines of cases in parts on the machines of a file: the status and the lines of the report. TEXTS is the folder of texts made here."""
+    count = hosts_in(hosts)
+    told = answers(suite_calls.parts_of(lines, jobs * count * suite_calls.PARTS_PER_JOB), program, hosts, jobs, texts)
+    if None in told:
+        raise Fault("a part came back from no machine")
+    return suite_calls.merged([suite_calls.Part(*one) for one in told])
