@@ -60,5 +60,6 @@ run_apart() {
 # The report as SARIF, in the file of --sarif.
 write_sarif() {
   command -v python3 >/dev/null || { say "without python3 '$sarif' can't be written" && status=12 && return; }
-  attend python3 "$tools/suite" --of "$held/report" "$source" --sarif "$sarif" 2>/dev/null || { say "'$sarif' could not be written" && status=12; }
+  attend python3 "$tools/suite" --of --sarif "$sarif" --program "$program" --text "$text" $fresh ${again[@]+"${again[@]}"} \
+    -- "$held/report" "$source" 2>/dev/null || { say "'$sarif' could not be written" && status=12; }
 }
