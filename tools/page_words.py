@@ -5,7 +5,7 @@ from typing import Iterator
 
 from page_runs import SCRIPT_REFUSED, Answer
 from page_text import counted, escaped, shown, tag
-from suite_adapters import sentences
+from sentences import sentences
 
 # How each outcome is meant, and what stands above it.
 HEADINGS = {

@@ -4,6 +4,7 @@ What one call begins ends with it: a signal that ends tools/suite ends its child
 """
 import concurrent.futures
 import os
+import resource
 import signal
 import subprocess
 import sys
@@ -31,7 +32,8 @@ class Children:
             if self.is_over:
                 raise RuntimeError("all has ended")
             given = subprocess.PIPE if has_input else subprocess.DEVNULL
-            process = subprocess.Popen(words, stdin=given, stdout=subprocess.PIPE, env={**os.environ, **more})
+            # (a file of a list may be one that this call was given open)
+            process = subprocess.Popen(words, stdin=given, stdout=subprocess.PIPE, env={**os.environ, **more}, close_fds=False)
             self.processes.add(process)
             return process
 
@@ -71,6 +73,12 @@ def called(words: "Sequence[Word]", text: Optional[bytes] = None, more: Optional
         return process.returncode, out
     finally:
         CHILDREN.forget(process)
+
+
+def jobs_for(wanted: int) -> int:
+    """How many calls may go on at once, each of which wants some open files."""
+    limit, _ = resource.getrlimit(resource.RLIMIT_NOFILE)
+    return wanted if limit == resource.RLIM_INFINITY else max(1, min(wanted, (limit - 12) // 4))
 
 
 def hear_signals() -> None:

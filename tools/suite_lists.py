@@ -10,8 +10,9 @@ import suite_calls
 
 HERE = os.path.dirname(os.path.realpath(__file__))
 MOST_TURNS = 100000000
-# More bytes than a source has that isn't refused for its size.
-MOST_BYTES = 16777217
+# More bytes than a source, a script and an output have that aren't refused for their size, by their columns. (A source that is preprocessed may be
+# longer than what it comes to.)
+MOST_BYTES = (16777217, 65537, 1048577)
 CASE = re.compile(rb"([!-~]+) ([!-~]+) ([!-~]+) ([1-9][0-9]{0,8}) (.+)\Z", re.S)
 # Of a list that is recorded a line may end behind each of its columns.
 OPEN_CASE = re.compile(rb"([!-~]+)(?: ([!-~]+)(?: ([!-~]+)(?: ([1-9][0-9]{0,8})(?: .*)?)?)?)?\Z", re.S)
@@ -37,13 +38,13 @@ class Case:
     def __init__(self, line: int, columns: "tuple[bytes, ...]"):
         self.line = line
         self.source, self.script, self.output, self.bound, self.expected = columns
-        # the file that the program gets, and whether it was made from the source just now
-        self.text, self.is_fresh = self.source, False
+        # the files that the program gets, and whether the first of them was made from the source just now
+        self.text, self.script_file, self.output_file, self.is_fresh = self.source, self.script, self.output, False
         self.end, self.passed, self.differs_at = b"", False, None
 
-    def words(self, text: bytes, output: bytes, expected: bytes) -> bytes:
+    def words(self, expected: bytes) -> bytes:
         """The line of this case for the program."""
-        return b" ".join([text, self.script, output, self.bound, expected])
+        return b" ".join([self.text, self.script_file, self.output_file, self.bound, expected])
 
     def files(self) -> "list[bytes]":
         """The files that the case names, in the order in which they are read."""
@@ -71,7 +72,7 @@ class Listed:
     """A list: its lines without carriage returns, its cases, and the first line that has no reading."""
 
     def __init__(self, text: bytes, is_open: bool = False):
-        self.is_too_long = len(text) > suite_calls.LIST_LIMIT
+        self.text, self.is_too_long = text, len(text) > suite_calls.LIST_LIMIT
         self.lines = [line[:-1] if line.endswith(b"\r") else line for line in text.split(b"\n")]
         self.cases: "list[Case]" = []
         self.wrong: Optional[int] = None
@@ -106,7 +107,7 @@ def read_list(name: str, is_open: bool) -> "Optional[Listed]":
 
 def recorded(listed: Listed, version: str) -> bytes:
     """The list with what each case came to in the place of what was expected."""
-    ends = {case.line: case.words(case.source, case.output, case.end) for case in listed.cases}
+    ends = {case.line: b" ".join([case.source, case.script, case.output, case.bound, case.end]) for case in listed.cases}
     said = RECORDED + f"what {version} answered, which nobody has looked at".encode()
     kept = [ends.get(number, line) for number, line in enumerate(listed.lines, 1) if not line.startswith(RECORDED)]
     while kept and kept[-1] == b"":
@@ -140,7 +141,7 @@ def has_directives(name: bytes) -> bool:
     """Whether a source has preprocessing directives, as tools/files.sh looks for them."""
     try:
         with open(name, "rb") as file:
-            text = file.read(MOST_BYTES)
+            text = file.read(MOST_BYTES[0])
     except OSError:
         return False
     if b"#" not in text and b"%:" not in text:
@@ -152,23 +153,50 @@ def has_directives(name: bytes) -> bool:
     return status == 0
 
 
+def is_plain(name: bytes) -> bool:
+    """Whether a file can be read more than once, under its name."""
+    return os.path.isfile(name) and not os.path.realpath(name).startswith((b"/dev/", b"/proc/"))
+
+
+def hold(cases: "list[Case]", room: str) -> None:
+    """Reads once what stands in pipes and the like, up to a size that tells as much as all, and has the program get that."""
+    held: "dict[tuple[int, bytes], bytes]" = {}
+    for case in cases:
+        for column, name in enumerate((case.source, case.script, case.output)):
+            if (column, name) not in held and (column == 0 or name != b"-") and os.path.exists(name) and not is_plain(name):
+                try:
+                    with open(name, "rb") as file:
+                        text = file.read(MOST_BYTES[column])
+                except OSError:
+                    continue
+                path = os.path.join(room, f"held{len(held)}").encode()
+                with open(path, "wb") as file:
+                    file.write(text)
+                held[column, name] = path
+        case.text = held.get((0, case.source), case.source)
+        case.script_file, case.output_file = held.get((1, case.script), case.script), held.get((2, case.output), case.output)
+
+
 def preprocess(cases: "list[Case]", room: str, changes: "list[str]", jobs: int) -> None:
     """Gives each case the text that its source comes to, where it has directives or something is to be changed."""
-    names = sorted({case.source for case in cases if os.path.isfile(case.source)})
+    sources = {case.source: case.text for case in cases}
 
-    def made(number: int, name: bytes) -> Optional[bytes]:
-        if not changes and not has_directives(name):
-            return name
+    def made(number: int, source: bytes) -> Optional[bytes]:
+        held = sources[source]
+        if not os.path.isfile(held) or not changes and not has_directives(held):
+            return held
         text = os.path.join(room, f"{number}.i").encode()
-        status, _ = suite_calls.called([f"{HERE}/preprocess", b"./-" if name == b"-" else name, text, *changes])
+        name = b"./-" if source == b"-" else source if held == source else b"-"
+        with open(held, "rb") as file:
+            given = file.read(MOST_BYTES[0]) if name == b"-" else None
+        status, _ = suite_calls.called([f"{HERE}/preprocess", name, text, *changes], given)
         return text if status == 0 else None
 
     with concurrent.futures.ThreadPoolExecutor(jobs) as pool:
-        texts = dict(zip(names, pool.map(made, range(len(names)), names)))
-    unmade = [case for case in cases if texts.get(case.source, b"") is None]
+        texts = dict(zip(sources, pool.map(made, range(len(sources)), sources)))
+    unmade = sorted({os.fsdecode(source) for source, text in texts.items() if text is None})
     if unmade:
-        named = ", ".join(sorted({os.fsdecode(case.source) for case in unmade}))
-        raise Fault(f"nothing is run, since these could not be preprocessed: {named}")
+        raise Fault(f"nothing is run, since these could not be preprocessed: {', '.join(unmade)}")
     for case in cases:
-        case.text = texts.get(case.source) or case.source
-        case.is_fresh = case.text != case.source
+        case.text = texts[case.source] or case.source
+        case.is_fresh = case.text != sources[case.source]

@@ -13,6 +13,7 @@ import tempfile
 from typing import Callable, NamedTuple, Optional
 
 import suite_calls
+from sentences import sentences
 from suite_lists import Case, text_of
 from suite_places import Place, Text, is_ours, plain, way_to
 
@@ -58,17 +59,6 @@ RULES = {
 }
 
 
-def sentences() -> "dict[tuple[str, str], str]":
-    """The sentence of each clause and reason, and of each other end and its reason."""
-    found = {}
-    with open(os.path.join(HERE, "sentences.txt"), encoding="utf-8") as file:
-        for line in file:
-            if not line.startswith("#"):
-                clause, reason, sentence = line.rstrip("\n").split(" ", 2)
-                found[clause, reason] = sentence
-    return found
-
-
 def version() -> str:
     """Which Valumeiro this is."""
     done = subprocess.run([os.path.join(HERE, "version")], stdin=subprocess.DEVNULL, stdout=subprocess.PIPE, check=False)
@@ -86,9 +76,9 @@ class Asked(NamedTuple):
 class Told:
     """A run that is told: what was run, and how it ended."""
 
-    def __init__(self, source: bytes, text: str, is_fresh: bool, script: "list[str]", end: str):
+    def __init__(self, source: bytes, text: str, is_fresh: bool, script: "list[str]", end: str, case: Optional[Case] = None):
         """SCRIPT is the option with its file, or nothing."""
-        self.source, self.path, self.is_fresh, self.script, self.end = source, text, is_fresh, script, end
+        self.source, self.path, self.is_fresh, self.script, self.end, self.case = source, text, is_fresh, script, end, case
         self.kind = end.split(" ")[0]
         self.text: Optional[Text] = None
         self.line: Optional[int] = None
@@ -240,7 +230,7 @@ def file_alone(name: bytes, line: int = 0) -> Json:
 def locations_of(asked: Asked, told: Told) -> "tuple[Json, list[Json]]":
     """Where a run ended, and the lines from which it got there, where that is in a header that comes with the program."""
     if told.kind == "script" and told.script:
-        return file_alone(os.fsencode(told.script[1]), int(told.value("line") or 0)), []
+        return file_alone(told.case.script if told.case else os.fsencode(told.script[1]), int(told.value("line") or 0)), []
     text = told.text
     place = text.place(told.line) if text and told.line else None
     if text is None or place is None or told.line is None:
@@ -284,8 +274,8 @@ def sarif(asked: Asked, cases: "Optional[list[Case]]", why_none: str) -> str:
         return sarif_of(rules, [], [why_none])
     shown = []
     for case in cases:
-        script = ["--script", os.fsdecode(case.script)] if case.script != b"-" else []
-        told = Told(case.source, os.fsdecode(case.text), case.is_fresh, script, text_of(case.end))
+        script = ["--script", os.fsdecode(case.script_file)] if case.script != b"-" else []
+        told = Told(case.source, os.fsdecode(case.text), case.is_fresh, script, text_of(case.end), case)
         if told.kind != "exit" or not case.passed:
             shown.append((case, told))
     with tempfile.TemporaryDirectory() as room:
