@@ -1,4 +1,5 @@
 # For ./pvrun: journals of runs, `./pvrun replay write FILE ..` and `./pvrun replay check FILE`, by the program pv_replay.
+# shellcheck shell=bash disable=SC2034,SC2154  # (variables of pvrun)
 
 write_journal() {
   read_beside 'replay write' '--zap --watch' "$@"

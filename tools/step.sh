@@ -1,4 +1,5 @@
 # For ./pvrun: `./pvrun step FILE [--script F]`, a run turn by turn, by the program pv_step and tools/step over it.
+# shellcheck shell=bash disable=SC2034,SC2154  # (variables of pvrun)
 
 step() {
   local stepper replayer=''
