@@ -12,7 +12,7 @@ try_slip() {
 try_slips() {
   local file=$work/plain.c
   try_slip 'no word' 'no mode; try ./pvrun --help'
-  try_slip 'no such mode' "'walk' is no mode (run, settle, check, layout, gen, replay, step)" walk "$file"
+  try_slip 'no such mode' "'walk' is no mode (run, settle, check, layout, gen, replay, step, page, explore, suite)" walk "$file"
   try_slip 'a file in the place of a mode' "'a.c' is no mode; try pvrun run a.c" a.c
   try_slip 'no file' 'run wants a file' run
   try_slip 'an empty name' 'the name of the file is empty' check ''
@@ -56,7 +56,7 @@ try_told() {
   call -h
   try_holds '-h' 'usage: pvrun run FILE' "$out"
   call --version
-  try_holds '--version' 'Valumeiro (' "$out"
+  try_holds '--version' "Valumeiro $(cat VERSION) (" "$out"
 }
 
 # ---- names

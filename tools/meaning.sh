@@ -38,21 +38,37 @@ tell_meaning() {
   esac
 }
 
+# Which allocations were never freed, by the journal of the run (whose options --zap is none of).
+tell_leaks() {
+  local i options=()
+  command -v python3 >/dev/null || { say 'without python3 leaks are not looked for' && return; }
+  for ((i = 0; i < ${#again[@]}; i += 2)); do
+    [ "${again[i]}" = --zap ] || options+=("${again[@]:i:2}")
+  done
+  . "$tools/beside.sh"
+  other=''
+  find_beside pv_replay
+  attend python3 "$tools/leaks" "$found" "$text" "$source" ${options[@]+"${options[@]}"}
+}
+
 # The output alone goes to standard output, and the report to the file of --report; with --sarif alone both go to standard output. They are parted
 # when the run has ended.
 run_apart() {
-  local begins=0
+  local begins=0 found=''
   hold
   . "$tools/report.sh"
   run >"$held/written"
   status=$?
   if [[ $mode =~ ^(run|settle)$ && $status =~ ^([0-7]|1[234])$ || $status -gt 128 ]]; then
-    begins=$(report_begins "$held/written" "$status")
-    [ -n "$begins" ] || begins=$(wc -c <"$held/written")
+    found=$(report_begins "$held/written" "$status")
+    begins=${found:-$(wc -c <"$held/written")}
   fi
   tail -c "+$((begins + 1))" "$held/written" >"$held/report"
-  [ -n "$report$quiet" ] || begins=$(wc -c <"$held/written")
-  attend head -c "$begins" "$held/written" || { say 'the output could not be written' && status=12; }
+  if [ -n "$report$quiet" ]; then
+    attend head -c "$begins" "$held/written"
+  else
+    write_in_lines "$held/written" "$found"
+  fi || { say 'the output could not be written' && status=12; }
   [ -z "$report" ] || attend cat "$held/report" >"$report" || { say "'$report' could not be written" && status=12; }
   [ -z "$sarif" ] || write_sarif
 }

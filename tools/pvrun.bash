@@ -6,7 +6,7 @@ _pvrun() {
   mode=${COMP_WORDS[first]-}
   COMPREPLY=()
   if [ "$COMP_CWORD" = "$first" ]; then
-    options='run settle check layout gen replay step'
+    options='run settle check layout gen replay step page explore suite'
     [ "$first" = 2 ] || options+=' --unproved --install --help --version'
     COMPREPLY=($(compgen -W "$options" -- "$word"))
     return
@@ -22,11 +22,14 @@ _pvrun() {
     --turns | --sides | gen) return ;;
   esac
   case $mode$word in
-    run-*) COMPREPLY=($(compgen -W '--script --turns --zap --watch --raw --keep --drop --report --sarif --quiet -I -D -U' -- "$word")) ;;
+    run-*) COMPREPLY=($(compgen -W '--script --turns --zap --watch --raw --keep --drop --report --sarif --leaks --quiet -I -D -U' -- "$word")) ;;
     settle-*) COMPREPLY=($(compgen -W '--script --turns --zap --sides --raw --keep --drop --report --quiet -I -D -U' -- "$word")) ;;
     check-* | layout-*) COMPREPLY=($(compgen -W '--raw --keep --drop --report --quiet -I -D -U' -- "$word")) ;;
     step-*) COMPREPLY=($(compgen -W '--script --raw --keep --drop -I -D -U' -- "$word")) ;;
     replay-*) COMPREPLY=($(compgen -W '--script --turns --raw --keep --drop -I -D -U' -- "$word")) ;;
+    page-*) COMPREPLY=($(compgen -W '--script --turns -o --listen --programs --help' -- "$word")) ;;
+    explore-*) COMPREPLY=($(compgen -W '--script --turns --keep --jobs --most --programs --help' -- "$word")) ;;
+    suite-*) COMPREPLY=($(compgen -W '--raw --drop --record --tap --junit --sarif --jobs --hosts --program --help -I -D -U' -- "$word")) ;;
     gen*) COMPREPLY=($(compgen -W '--report --quiet' -- "$word")) ;;
     *) compopt -o filenames 2>/dev/null; mapfile -t COMPREPLY < <(compgen -f -- "$word") ;;
   esac

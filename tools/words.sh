@@ -4,7 +4,7 @@
 # the script's file is that numbered `script`), `again` those of them that a second run needs (which can't be made where there are sides:
 # `sided`), `changes` the options of preprocessing.
 read_words() {
-  mode=${1-} source=${2-} slip='' handed=() again=() changes=() raw='' keep='' report='' sarif='' quiet='' script='' sided=''
+  mode=${1-} source=${2-} slip='' handed=() again=() changes=() raw='' keep='' report='' sarif='' quiet='' leaks='' script='' sided=''
   case $mode in
     run | settle | check | layout)
       if [ $# -lt 2 ]; then
@@ -18,9 +18,10 @@ read_words() {
     gen) [[ $source =~ ^[1-9][0-9]{0,3}$ && $source -le 8192 ]] || slip='gen takes one number, from 1 to 8192 without a leading zero' ;;
     '') slip='no mode; try ./pvrun --help' ;;
     *.c | *.i) slip="'$mode' is no mode; try pvrun run $mode" ;;
-    *) slip="'$mode' is no mode (run, settle, check, layout, gen, replay, step)" ;;
+    *) slip="'$mode' is no mode (run, settle, check, layout, gen, replay, step, page, explore, suite)" ;;
   esac
   [ $# -le 2 ] || read_options "${@:3}"
+  [ -z "$leaks" ] || [ -z "$quiet" ] || [ -n "$slip" ] || slip='--leaks says words, and --quiet wants none'
 }
 
 read_options() {
@@ -30,6 +31,7 @@ read_options() {
       gen--report) ;;
       gen*) slip="gen takes no option '$1'" ;;
       *--raw) raw=yes && shift && continue ;;
+      run--leaks) leaks=yes && shift && continue ;;
       *--report | *--keep | *--drop | *-[IDU]) ;;
       *-[IDU]?*) changes+=("$1") && shift && continue ;;
       run--script | run--turns | run--zap | run--watch | run--sarif) ;;
