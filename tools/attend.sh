@@ -44,6 +44,8 @@ hear_signals() {
 end_by() {
   local job
   trap '' INT TERM HUP
+  # (what hands on a program's output ends when nobody writes to it any more)
+  exec 8>&-
   for job in $(jobs -p); do
     kill -TERM -- "-$job" 2>/dev/null || kill -TERM "$job" 2>/dev/null
   done

@@ -41,25 +41,34 @@ write_in_lines() {
 # Runs the program, and sets its status. All that it writes is handed on meanwhile, but for its last bytes, before which a line feed may be
 # wanted: those of a report, and of the texts behind it. What prints nothing, or can't be held, is handed on as it is.
 run_in_lines() {
-  local most=4096 front last
+  local most=4096 handing
   [[ "$mode ${handed[*]-}" != settle* && "${handed[*]-}" != *--watch* ]] || most=16777216
-  if ! grep -qaF printf -- "$text" || ! { : >&1; } 2>/dev/null || ! open_pipes; then
+  if ! grep -qaF printf -- "$text" || ! { : >&1; } 2>/dev/null || ! hold_end || ! exec 8> >(hand_on "$most" 2>/dev/null); then
     run
     status=$?
     return
   fi
-  tail -c "$most" <"$held/last" >"$held/end" 2>/dev/null 8>&- 9>&- &
-  last=$!
-  (set -o pipefail && tee --output-error=exit "$held/last" <"$held/whole" | head -c "-$most") 2>/dev/null 8>&- 9>&- &
-  front=$!
-  run >"$held/whole" 8>&- 9>&-
+  handing=$!
+  run >&8 8>&-
   status=$?
-  exec 8>&- 9>&-
-  wait "$last" && wait "$front" && write_in_lines "$held/end" "$(report_begins "$held/end" "$status")" || status=12
+  exec 8>&-
+  wait "$handing" && write_in_lines "$held/end" "$(report_begins "$held/end" "$status")" || status=12
 }
 
-# Two pipes with names in the folder of this call, if there can be any. That this shell has them open lets nobody wait for who is at the other end.
-open_pipes() {
+# A folder for the last bytes, and a pipe to them, if there can be any.
+hold_end() {
   [ -n "$held" ] || held=$(mktemp -d 2>/dev/null) || { held='' && return 1; }
-  command -v tee >/dev/null && mkfifo "$held/whole" "$held/last" 2>/dev/null && { exec 8<>"$held/whole" 9<>"$held/last"; } 2>/dev/null
+  command -v tee >/dev/null && mkfifo "$held/last" 2>/dev/null
+}
+
+# Hands standard input on but for its last bytes, up to that many, which go to a file. Where nobody takes more it ends, so that the program hears of it.
+hand_on() {
+  local end front=()
+  tail -c "$1" <"$held/last" >"$held/end" &
+  end=$!
+  tee --output-error=exit "$held/last" | head -c "-$1"
+  front=("${PIPESTATUS[@]}")
+  # (a pipe that could not be opened here would be waited for there)
+  [ "${front[*]}" = '0 0' ] || kill "$end"
+  wait "$end" && [ "${front[*]}" = '0 0' ]
 }
