@@ -46,7 +46,7 @@ def speaker(call: Call) -> str:
     """The program whose report a call has: the launcher hands on those of several."""
     if call.program != "launcher":
         return call.program
-    return "pv_replay" if call.words[:1] == ["replay"] else "pvrun"
+    return {"replay": "pv_replay", "suite": "pv_suite"}.get(str(call.words[0]) if call.words else "", "pvrun")
 
 
 def is_documented(program: str, status: int, out: bytes) -> bool:

@@ -96,6 +96,7 @@ WRONG = b"int a; int b = c; int main(void){return 0;}"
 WRONG_PLACE = b"a.c:1:8: refused: constraint\n  int a; int b = c; int main(void){return 0;}\n         ^\n"
 CASES = b"a.c - - 2 turns bound=2\nb.c s o 99 exit status=0 turn=6\n"
 HELLO = b'int printf(const char *, ...); int main(void){printf("hello\\n"); return 0;}'
+HELLO_HEADER = b"#include <stdio.h>\nint main(void) { printf(\"hello\\n\"); return 3; }\n"
 # An address is made of halves of two others.
 HALVES = b"""void *memcpy(void *, const void *, unsigned long);
 int x = 1, y = 2;
@@ -171,13 +172,17 @@ CALLS = [
          {"a.c": "source", "c": "commands", "s": "script"}),
     Call("launcher", ["run", "a.c", "--script", "s", "--watch", "pointers"], {"a.c": PAIR, "s": BESIDE}, 0, PAIR_TOLD,
          {"a.c": "source", "s": "script"}),
-    Call("launcher", ["run", "a.c"], {"a.c": b"#include <stdio.h>\nint main(void) { printf(\"hello\\n\"); return 3; }\n"}, 0,
+    Call("launcher", ["run", "a.c"], {"a.c": HELLO_HEADER}, 0,
          b"hello\nexit status=3 turn=6\n", {"a.c": "source"}),
     Call("launcher", ["run", "a.c", "--script", "s"], {"a.c": ENDED, "s": ENDED_PLACES}, 1, ENDED_LINE, {"a.c": "source", "s": "script"}),
     Call("launcher", ["check", "a.c"], {"a.c": WRONG}, 8, b"refused reason=constraint index=1\n", {"a.c": "source"}),
     Call("launcher", ["replay", "write", "a.c", "--script", "s"], {"a.c": ENDED, "s": ENDED_PLACES}, 0, JOURNAL,
          {"a.c": "source", "s": "script"}),
     Call("launcher", ["replay", "check", "j"], {"j": JOURNAL}, 0, b"journal ok events=6\n", {"j": "journal"}),
+    Call("launcher", ["suite", "l"], {"l": CASES, "a.c": EXIT, "b.c": HELLO, "s": BESIDE, "o": b"hello\n"}, 0,
+         b"pass 1\npass 2\nsuite cases=2 passed=2\n", {"l": "list", "s": "script", "o": "output"}, "pv_suite"),
+    Call("launcher", ["suite", "l"], {"l": b"a.c - o 99 exit status=3\r\n", "a.c": HELLO_HEADER, "o": b"hello\n"}, 0,
+         b"pass 1\nsuite cases=1 passed=1\n", {"a.c": "source"}, "pv_suite"),
 ]
 # Calls that end by a signal alone.
 LONG = [
@@ -187,6 +192,7 @@ LONG = [
     Call("launcher", ["run", "a.c", "--turns", "100000000"], {"a.c": ENDLESS}, 6, b"turns bound=100000000\n", {}),
     Call("launcher", ["run", "a.c", "--turns", "100000000", "--quiet"], {"a.c": b"#define A\n" + ENDLESS}, 6, b"", {}),
     Call("launcher", ["replay", "write", "a.c", "--turns", "100000000"], {"a.c": ENDLESS}, 0, b"events 0\n", {}),
+    Call("launcher", ["suite", "l"], {"l": b"a.c - - 100000000 x\n", "a.c": ENDLESS}, 15, b"", {}, "pv_suite"),
 ]
 
 
@@ -313,7 +319,8 @@ def around() -> Iterator[Row]:
             right = [(11, b"fault read\n"), (127, b"")] if call.reads else [calm(call), (127, b"")]
             yield Row(family, "no descriptor left (ulimit -n 0)", call, right, 'ulimit -n 0; exec "$@"')
         else:
-            right = [(127, b"") if b"#include" in call.files.get("a.c", b"") else calm(call)]
+            # (tools/suite finds another folder)
+            right = [(127, b"") if b"#include" in call.files.get("a.c", b"") and not is_suite(call) else calm(call)]
             yield Row(family, "no folder for temporary files", call, right, 'export TMPDIR=/none; exec "$@"')
             yield Row(family, "a file as the folder for temporary files", call, right, 'export TMPDIR=/dev/full; exec "$@"')
         yield Row(family, "sixteen descriptors (ulimit -n 16)", call, [calm(call)], 'ulimit -n 16; exec "$@"')
@@ -322,30 +329,43 @@ def around() -> Iterator[Row]:
 def written() -> Iterator[Row]:
     """Files that the launcher writes: pipes, folders, devices that take nothing."""
     family = "files"
+    for option in ("--tap", "--junit", "--sarif", "--record"):
+        report = b"" if option == "--record" else b"pass 1\npass 2\nsuite cases=2 passed=2\n"
+        told = Call("launcher", ["suite", "l", option, "../made"], CALLS[-2].files, 0, report, {}, "pv_suite")
+        yield Row(family, f"suite {option}", told, [calm(told)])
+        yield from badly_written(family, f"suite {option}", told)
     call = Call("launcher", ["run", "a.c"], {"a.c": HELLO}, 0, b"hello\nexit status=0 turn=6\n")
     for option in ("--report", "--keep", "--sarif"):
         apart = b"hello\n" if option == "--report" else call.out
-        told = Call("launcher", ["run", "a.c", option, "../made"], call.files, 0, apart)
-        yield Row(family, f"{option} into a pipe", told, [calm(told)], 'mkfifo ../made; cat ../made >/dev/null & "$@"')
-        yield Row(family, f"{option} into a pipe that nobody reads", told, [(ended_by(signal.SIGTERM), Part)], 'mkfifo ../made; exec "$@"',
-                  after(0.5, signal.SIGTERM))
-        yield Row(family, f"{option} into a pipe whose reader goes", told, [calm(told), (12, Part), (127, b"")], 'mkfifo ../made; : <../made & "$@"')
-        yield Row(family, f"{option} into a folder", told, [(127, b"")], 'mkdir ../made; exec "$@"')
-        yield Row(family, f"{option} into /dev/full", told, [(12, Part), (127, b"")], 'ln -s /dev/full ../made; exec "$@"')
-        yield Row(family, f"{option} into no folder", told, [(127, b"")], 'ln -s none/made ../made; exec "$@"')
+        yield from badly_written(family, option, Call("launcher", ["run", "a.c", option, "../made"], call.files, 0, apart))
+
+
+def badly_written(family: str, option: str, told: Call) -> Iterator[Row]:
+    """Something else in the place of the file that an option has written."""
+    yield Row(family, f"{option} into a pipe", told, [calm(told)], 'mkfifo ../made; cat ../made >/dev/null & "$@"')
+    yield Row(family, f"{option} into a pipe that nobody reads", told, [(ended_by(signal.SIGTERM), Part)], 'mkfifo ../made; exec "$@"',
+              after(0.5, signal.SIGTERM))
+    yield Row(family, f"{option} into a pipe whose reader goes", told, [calm(told), (12, Part), (127, b"")], 'mkfifo ../made; : <../made & "$@"')
+    yield Row(family, f"{option} into a folder", told, [(127, b"")], 'mkdir ../made; exec "$@"')
+    yield Row(family, f"{option} into /dev/full", told, [(12, Part), (127, b"")], 'ln -s /dev/full ../made; exec "$@"')
+    yield Row(family, f"{option} into no folder", told, [(127, b"")], 'ln -s none/made ../made; exec "$@"')
 
 
 def too_long(call: Call, kind: str) -> "list[Right]":
     """What comes where a file has no end."""
     status, line = TOO_LONG[kind]
+    right = [(15, Any) if is_suite(call) and kind in ("source", "script") else (status, line)]
     if kind == "source" and b"#include" in call.files["a.c"]:
         # (the preprocessor may want more memory than there is)
-        return [(status, line), (127, b"")]
+        return [*right, (127, b"")]
     if call.program == "pvwhere":
         return [(8, Any)]
-    if call.program == "pv_suite" and kind in ("source", "script"):
-        return [(15, Any)]
-    return [(status, line)]
+    return right
+
+
+def is_suite(call: Call) -> bool:
+    """Whether it is the program of suites that answers."""
+    return call.program == "pv_suite" or list(call.words[:1]) == ["suite"]
 
 
 # ---- commands about single turns, which the launcher reads from standard input

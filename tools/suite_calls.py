@@ -59,7 +59,8 @@ def say(text: str) -> None:
         if sys.stderr is not None:
             print(text, file=sys.stderr, flush=True)
     except OSError:
-        pass
+        # (nor can what is left be said when this ends)
+        os.dup2(os.open(os.devnull, os.O_WRONLY), 2)
 
 
 def called(words: "Sequence[Word]", text: Optional[bytes] = None, more: Optional[Mapping[str, str]] = None) -> "tuple[int, bytes]":
@@ -73,6 +74,16 @@ def called(words: "Sequence[Word]", text: Optional[bytes] = None, more: Optional
         return process.returncode, out
     finally:
         CHILDREN.forget(process)
+
+
+def open_streams() -> None:
+    """Opens standard streams that are closed, so that no file of this call or of what it begins stands in their place. Nothing can be written to this
+    standard output."""
+    for number in range(3):
+        try:
+            os.fstat(number)
+        except OSError:
+            os.set_inheritable(os.open(os.devnull, os.O_RDONLY if number == 1 else os.O_RDWR), True)
 
 
 def jobs_for(wanted: int) -> int:

@@ -277,7 +277,7 @@ def try_proved(tried: Tried, tool: Tool) -> None:
 
 def try_devices(tried: Tried, tool: Tool) -> None:
     """What can't be written ends with a status and a sentence, never with a traceback; what can be is written all the same."""
-    write("list", ZERO)
+    write("list", b"prints.c - hello.out 99 exit status=3\n")
     rows = [(f"--{form} {name}", [f"--{form}", name], status) for form in (*suite_adapters.FORMS, "record") for name, status in (
         ("/nonexistent/x", 127), ("/dev/full", 12), ("folder", 127))]
     for what, words, status in rows:
