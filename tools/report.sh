@@ -43,7 +43,7 @@ write_in_lines() {
 run_in_lines() {
   local most=4096 handing
   [[ "$mode ${handed[*]-}" != settle* && "${handed[*]-}" != *--watch* ]] || most=16777216
-  if ! grep -qaF printf -- "$text" || ! { : >&1; } 2>/dev/null || ! hold_end || ! exec 8> >(hand_on "$most" 2>/dev/null); then
+  if ! first_of "$text" | grep -qaF printf || ! { : >&1; } 2>/dev/null || ! hold_end || ! exec 8> >(hand_on "$most" 2>/dev/null); then
     run
     status=$?
     return

@@ -52,7 +52,7 @@ RULES = {
         "It is no C17, or needs what the language that is run leaves out. docs/LANGUAGE.md says what it has.", "warning",
     ),
     "script": ("the script of addresses can not be read", "A line of the script has no reading, or speaks of what another line speaks of.", "error"),
-    "suite/case": (
+    "case": (
         "a case did not come out as the list expects",
         "The run ended with another line than the list has, or its output differs. The list says what is expected.", "error",
     ),
@@ -119,9 +119,9 @@ class Rules:
         """The name of the rule for an end, its sentence, and the level of the result."""
         if told.kind == "undefined":
             return *self.of_clause(told.value("clause"), told.value("reason")), "error"
-        kind = told.kind if told.kind in RULES else "suite/case"
+        kind = told.kind if told.kind in RULES else "case"
         short, more, level = RULES[kind]
-        sentence = self.said.get((told.kind, told.value("reason") or "-"), short) if kind != "suite/case" else short
+        sentence = self.said.get((told.kind, told.value("reason") or "-"), short) if kind != "case" else short
         return self.named(kind, short, more, level), sentence, "error" if is_expected is False else level
 
 

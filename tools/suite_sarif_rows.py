@@ -104,7 +104,7 @@ def try_list(tried, tool) -> None:
     more = [(*named(one), one["kind"]) for one in results[len(rows) :]]
     tried.same("SARIF: as expected, and not", [
         ("C17/6.5.5p5", "divide.c", 3, (3, 16), "none", "pass"), ("script", "bad.script", 2, None, "none", "pass"),
-        ("suite/case", "placed.c", None, None, "error", "fail"),
+        ("case", "placed.c", None, None, "error", "fail"),
     ], more)
 
 
