@@ -44,9 +44,9 @@ hear_signals() {
 end_by() {
   local job
   trap '' INT TERM HUP
-  # (what hands on a program's output ends when nobody writes to it any more)
+  # (what hands on a program's output is no job; it also ends when nobody writes to it any more)
   exec 8>&-
-  for job in $(jobs -p); do
+  for job in $(jobs -p) ${handing-}; do
     kill -TERM -- "-$job" 2>/dev/null || kill -TERM "$job" 2>/dev/null
   done
   wait 2>/dev/null

@@ -39,9 +39,10 @@ write_in_lines() {
 } 2>/dev/null
 
 # Runs the program, and sets its status. All that it writes is handed on meanwhile, but for its last bytes, before which a line feed may be
-# wanted: those of a report, and of the texts behind it. What prints nothing, or can't be held, is handed on as it is.
+# wanted: those of a report, and of the texts behind it. What prints nothing, or can't be held, is handed on as it is. `handing` is the process
+# that hands on, which a signal that ends this call ends too.
 run_in_lines() {
-  local most=4096 handing
+  local most=4096
   [[ "$mode ${handed[*]-}" != settle* && "${handed[*]-}" != *--watch* ]] || most=16777216
   if ! first_of "$text" | grep -qaF printf || ! { : >&1; } 2>/dev/null || ! hold_end || ! exec 8> >(hand_on "$most" 2>/dev/null); then
     run
@@ -49,10 +50,11 @@ run_in_lines() {
     return
   fi
   handing=$!
-  run >&8 8>&-
+  run >&8
   status=$?
   exec 8>&-
   wait "$handing" && write_in_lines "$held/end" "$(report_begins "$held/end" "$status")" || status=12
+  handing=''
 }
 
 # A folder for the last bytes, and a pipe to them, if there can be any.
@@ -63,12 +65,15 @@ hold_end() {
 
 # Hands standard input on but for its last bytes, up to that many, which go to a file. Where nobody takes more it ends, so that the program hears of it.
 hand_on() {
-  local end front=()
-  tail -c "$1" <"$held/last" >"$held/end" &
+  local end front
+  set -o pipefail
+  tail -c "$1" <"$held/last" >"$held/end" 8>&- &
   end=$!
-  tee --output-error=exit "$held/last" | head -c "-$1"
-  front=("${PIPESTATUS[@]}")
+  # (a job has an empty input where nobody gives it another one)
+  tee --output-error=exit "$held/last" <&0 8>&- | head -c "-$1" 8>&- &
+  front=$!
+  trap 'kill "$end" "$front" $(jobs -p)' TERM
   # (a pipe that could not be opened here would be waited for there)
-  [ "${front[*]}" = '0 0' ] || kill "$end"
-  wait "$end" && [ "${front[*]}" = '0 0' ]
+  wait "$front" || { kill "$end" && return 1; }
+  wait "$end"
 }
