@@ -48,7 +48,7 @@ take_files() {
   [ -z "$unread" ] || return 0
   if [ -z "$raw" ] && { [ "${#changes[@]}" -gt 0 ] || has_directives "$text"; }; then
     hold
-    attend "$tools/preprocess" "$given" "$held/text.i" ${changes[@]+"${changes[@]}"} <"$text" || exit 127
+    attend "$tools/preprocess" "$given" "$held/text.i" ${quiet:+--quiet} ${changes[@]+"${changes[@]}"} <"$text" || exit 127
     text=$held/text.i fresh=--fresh
   fi
   [ -z "$keep" ] || attend cat -- "$text" >"$keep" || exit 127

@@ -18,7 +18,7 @@ _pvrun() {
   case $last in
     --watch) COMPREPLY=($(compgen -W 'explain census pointers' -- "$word")) && return ;;
     --zap) COMPREPLY=($(compgen -W 'on off' -- "$word")) && return ;;
-    --drop) COMPREPLY=($(compgen -W 'restrict volatile' -- "$word")) && return ;;
+    --drop) COMPREPLY=($(compgen -W 'restrict volatile attributes' -- "$word")) && return ;;
     --turns | --sides | gen) return ;;
   esac
   case $mode$word in

@@ -48,7 +48,7 @@ read_options() {
 read_value() {
   case $1 in
     -[IDU]) [ -n "$2" ] && changes+=("$1$2") || slip="$1 wants a value" ;;
-    --drop) [[ $2 =~ ^(restrict|volatile)$ ]] && changes+=(--drop "$2") || slip="'$2' is no word that --drop takes away (restrict, volatile)" ;;
+    --drop) [[ $2 =~ ^(restrict|volatile|attributes)$ ]] && changes+=(--drop "$2") || slip="'$2' is no word that --drop takes away (restrict, volatile, attributes)" ;;
     --keep) keep=$2 ;;
     --report) report=$2 ;;
     --sarif) sarif=$2 ;;
