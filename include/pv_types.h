@@ -63,3 +63,29 @@ typedef struct { long long quot, rem; } lldiv_t;
 typedef struct __stream FILE;
 #endif
 #undef __needs_stream
+
+/* 7.27.1p3 */
+#if defined __needs_time && !defined __has_time
+#define __has_time
+typedef long time_t, clock_t;
+#endif
+#undef __needs_time
+
+/* 7.14p2 */
+#if defined __needs_signal && !defined __has_signal
+#define __has_signal
+typedef int sig_atomic_t;
+#endif
+#undef __needs_signal
+
+/* <sys/types.h> of POSIX */
+#if defined __needs_system && !defined __has_system
+#define __has_system
+typedef unsigned char u_char;
+typedef unsigned short u_short;
+typedef unsigned int u_int, uid_t, gid_t, id_t, mode_t, useconds_t;
+typedef unsigned long u_long, dev_t, ino_t, nlink_t, fsblkcnt_t, fsfilcnt_t;
+typedef int pid_t, key_t, clockid_t;
+typedef long ssize_t, off_t, blkcnt_t, blksize_t, suseconds_t;
+#endif
+#undef __needs_system

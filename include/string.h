@@ -1,5 +1,5 @@
 /*
- * <string.h>, C17 7.24: all but strerror, which has messages of a system to tell.
+ * <string.h>, C17 7.24: all of it; strerror where a program names it (<pv_messages.h>).
  *
  * memcpy, memmove, memset, memcmp, strlen, strcmp and strcpy are the language's own. The others are defined here
  * in C, and what is undefined in them is reported at the line here that does it: strcat over the end of its target
@@ -132,5 +132,13 @@ static char *strtok(char *__text, const char *__set) {
     *__rest++ = 0;
   return __text;
 }
+
+#ifdef __PV_WANTS_MESSAGES
+#include <pv_messages.h>
+
+static char *strerror(int __number) {
+  return __message_of(__number);
+}
+#endif
 
 #endif

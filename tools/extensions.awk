@@ -4,6 +4,7 @@
 #   NAME    the source's name, for places before the first line marker
 #   NOTES   the file for notes: pragmas that are not known, and what DROP takes away
 #   DROP    takes away all of them, and asm labels and __thread, where it is not empty
+#   MARK, INPUT  what stands in marks, and a file with a string literal, for the names __pv_mark and __pv_input_bytes that the headers have
 #   TELL    where it is not empty, the text is not written, but hints of what stands in it
 BEGIN {
   name = ENVIRON["NAME"]
@@ -204,6 +205,8 @@ function alone(token, before) {
     if (drop) { note(before, "__thread gives each thread an object of its own" gone); return blanked(token) }
     if (tell) note(before, "__thread gives each thread an object of its own" goes_by)
   }
+  if (token == "__pv_mark") return "\"\\033_" ENVIRON["MARK"] "\""
+  if (token == "__pv_input_bytes") { token = ""; while ((getline piece < ENVIRON["INPUT"]) > 0) token = token piece; return token }
   if (token == "{") depth++
   if (token == "}" && depth) depth--
   return token
@@ -276,7 +279,7 @@ held == "" && !commented && /^[ \t]*#/ {
   }
   next
 }
-held == "" && !commented && !drop && !/__attribute|_Pragma|inline|__thread|asm|\/\*/ { if (!tell) print; line++; next }
+held == "" && !commented && !drop && !/__attribute|_Pragma|inline|__thread|asm|__pv_|\/\*/ { if (!tell) print; line++; next }
 {
   if (begun) {
     held = held "\n" $0
