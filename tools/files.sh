@@ -46,12 +46,19 @@ take_files() {
   can_read "$text" || unread=$source
   [ -z "$script" ] || take_script
   [ -z "$unread" ] || return 0
-  if [ -z "$raw" ] && { [ "${#changes[@]}" -gt 0 ] || has_directives "$text"; }; then
+  [ -z "$input" ] || take_input
+  if [ -z "$raw" ] && { [ "${#changes[@]}" -gt 0 ] || [ -n "$input" ] || has_directives "$text"; }; then
     hold
-    attend "$tools/preprocess" "$given" "$held/text.i" ${quiet:+--quiet} ${changes[@]+"${changes[@]}"} <"$text" || exit 127
+    attend "$tools/preprocess" "$given" "$held/text.i" --marks ${quiet:+--quiet} ${input:+--input "$input"} ${changes[@]+"${changes[@]}"} <"$text" || exit 127
     text=$held/text.i fresh=--fresh
   fi
   [ -z "$keep" ] || attend cat -- "$text" >"$keep" || exit 127
+}
+
+# The bytes that the program finds on its standard input. A pipe is read once, up to more bytes than a source can have.
+take_input() {
+  can_read "$input" || { say "'$input' could not be read" && exit 127; }
+  take_pipe "$input" input 1048577 && input=$held/input
 }
 
 take_script() {
@@ -67,9 +74,9 @@ take_script() {
 # A file that is written is none of those that are read, and can be written: looked at before a run, and before a proof.
 guard_files() {
   local name
-  for name in "$keep" "$report" "$sarif"; do
+  for name in "$keep" "$report" "$sarif" "$errors"; do
     [ -n "$name" ] || continue
-    if [ "$name" -ef "$source" ] || { [ -n "$script" ] && [ "$name" -ef "${handed[script]}" ]; }; then
+    if [ "$name" -ef "$source" ] || { [ -n "$input" ] && [ "$name" -ef "$input" ]; } || { [ -n "$script" ] && [ "$name" -ef "${handed[script]}" ]; }; then
       say "'$name' is read, so it can't be written"
       exit 127
     fi

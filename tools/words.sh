@@ -4,7 +4,7 @@
 # the script's file is that numbered `script`), `again` those of them that a second run needs (which can't be made where there are sides:
 # `sided`), `changes` the options of preprocessing.
 read_words() {
-  mode=${1-} source=${2-} slip='' handed=() again=() changes=() raw='' keep='' report='' sarif='' quiet='' leaks='' script='' sided=''
+  mode=${1-} source=${2-} slip='' handed=() again=() changes=() raw='' keep='' report='' sarif='' errors='' input='' quiet='' leaks='' script='' sided=''
   case $mode in
     run | settle | check | layout)
       if [ $# -lt 2 ]; then
@@ -32,9 +32,9 @@ read_options() {
       gen*) slip="gen takes no option '$1'" ;;
       *--raw) raw=yes && shift && continue ;;
       run--leaks) leaks=yes && shift && continue ;;
-      *--report | *--keep | *--drop | *-[IDU]) ;;
+      *--report | *--keep | *--drop | *--input | *-[IDU]) ;;
       *-[IDU]?*) changes+=("$1") && shift && continue ;;
-      run--script | run--turns | run--zap | run--watch | run--sarif) ;;
+      run--script | run--turns | run--zap | run--watch | run--sarif | run--stderr | settle--stderr) ;;
       settle--script | settle--turns | settle--zap | settle--sides) ;;
       *) slip="'$1' is no option of $mode" ;;
     esac
@@ -52,10 +52,12 @@ read_value() {
     --keep) keep=$2 ;;
     --report) report=$2 ;;
     --sarif) sarif=$2 ;;
+    --stderr) errors=$2 ;;
+    --input) input=$2 ;;
     *) read_run_value "$1" "$2" && handed+=("$1" "$2") ;;
   esac
   case $1 in
-    --keep | --report | --sarif) [ -n "$2" ] || slip="the name behind $1 is empty" ;;
+    --keep | --report | --sarif | --stderr | --input) [ -n "$2" ] || slip="the name behind $1 is empty" ;;
     --script | --turns | --zap) again+=("$1" "$2") ;;
     --sides) sided=yes ;;
   esac
