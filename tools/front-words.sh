@@ -39,6 +39,9 @@ try_slips() {
   try_slip 'gen with an option' "gen takes no option '--raw'" gen 3 --raw
   try_slip 'a word that can not be dropped' "'const' is no word that --drop takes away (restrict, volatile, attributes)" run "$file" --drop const
   try_slip 'an empty name of a report' 'the name behind --report is empty' run "$file" --report ''
+  try_slip 'an empty name for standard error' 'the name behind --stderr is empty' run "$file" --stderr ''
+  try_slip "standard error of what doesn't run" "'--stderr' is no option of check" check "$file" --stderr x
+  try_slip 'no name of an input' '--input wants a value' run "$file" --input
   try_slip 'an empty name of a SARIF' 'the name behind --sarif is empty' run "$file" --sarif ''
 }
 
