@@ -22,11 +22,11 @@ _pvrun() {
     --turns | --sides | gen) return ;;
   esac
   case $mode$word in
-    run-*) COMPREPLY=($(compgen -W '--script --turns --zap --watch --raw --keep --drop --report --sarif --leaks --quiet -I -D -U' -- "$word")) ;;
-    settle-*) COMPREPLY=($(compgen -W '--script --turns --zap --sides --raw --keep --drop --report --quiet -I -D -U' -- "$word")) ;;
-    check-* | layout-*) COMPREPLY=($(compgen -W '--raw --keep --drop --report --quiet -I -D -U' -- "$word")) ;;
-    step-*) COMPREPLY=($(compgen -W '--script --raw --keep --drop -I -D -U' -- "$word")) ;;
-    replay-*) COMPREPLY=($(compgen -W '--script --turns --raw --keep --drop -I -D -U' -- "$word")) ;;
+    run-*) COMPREPLY=($(compgen -W '--script --turns --zap --watch --raw --keep --drop --input --stderr --report --sarif --leaks --quiet -I -D -U' -- "$word")) ;;
+    settle-*) COMPREPLY=($(compgen -W '--script --turns --zap --sides --raw --keep --drop --input --stderr --report --quiet -I -D -U' -- "$word")) ;;
+    check-* | layout-*) COMPREPLY=($(compgen -W '--raw --keep --drop --input --report --quiet -I -D -U' -- "$word")) ;;
+    step-*) COMPREPLY=($(compgen -W '--script --raw --keep --drop --input -I -D -U' -- "$word")) ;;
+    replay-*) COMPREPLY=($(compgen -W '--script --turns --raw --keep --drop --input -I -D -U' -- "$word")) ;;
     page-*) COMPREPLY=($(compgen -W '--script --turns -o --listen --programs --help' -- "$word")) ;;
     explore-*) COMPREPLY=($(compgen -W '--script --turns --keep --jobs --most --programs --help' -- "$word")) ;;
     suite-*) COMPREPLY=($(compgen -W '--raw --drop --record --tap --junit --sarif --jobs --hosts --program --help -I -D -U' -- "$word")) ;;
