@@ -9,7 +9,7 @@ read_beside() {
   slip=${slip/%'no option of run'/"no option of $name"}
   slip=${slip/#'run wants'/"$name wants"}
   slip=${slip/'pvrun run FILE'/"pvrun $name FILE"}
-  [ -z "$quiet$report$sarif" ] || slip="$name takes neither --quiet nor --report nor --sarif"
+  [ -z "$quiet$report$sarif$errors" ] || slip="$name takes neither --quiet nor --report nor --sarif nor --stderr"
   [ -z "$leaks" ] || slip="'--leaks' is no option of $name"
   for ((i = 0; i < ${#handed[@]}; i += 2)); do
     [[ " $2 " != *" ${handed[i]} "* ]] || slip="'${handed[i]}' is no option of $name"

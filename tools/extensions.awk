@@ -12,7 +12,10 @@ BEGIN {
   drop = ENVIRON["DROP"]
   tell = ENVIRON["TELL"]
   line = 1
-  token_form = "[A-Za-z_0-9]+|\"([^\"\\\\]|\\\\.)*\"|'([^'\\\\]|\\\\.)*'|/\\*|//|[^ \t\n]"
+  literal_form = "\"([^\"\\\\]|\\\\.)*\"|'([^'\\\\]|\\\\.)*'|/\\*|//"
+  # (where no label is looked for, most tokens are passed over)
+  token_form = literal_form "|__attribute|__attribute__|_Pragma|asm|__asm|__asm__|inline|__thread|__pv_mark|__pv_input_bytes"
+  if (drop) token_form = literal_form "|[A-Za-z_0-9]+|[^ \t\n]"
   goes_by = "; --drop attributes takes it away"
   gone = goes_by ", so another program is run"
   asm_words = "asm is assembly, which has no meaning in C17, or gives a name another one: such a label goes by --drop attributes"
@@ -227,6 +230,14 @@ function taken(text,    token, end) {
     token = substr(text, RSTART, RLENGTH)
     text = substr(text, RSTART + RLENGTH)
     if (token == "//") break
+    if (token ~ /^[A-Za-z_]/ && (made ~ /[A-Za-z_0-9]$/ || text ~ /^[A-Za-z_0-9]/)) {
+      # (a part of another name)
+      match(text, /^[A-Za-z_0-9]*/)
+      made = made token substr(text, 1, RLENGTH)
+      text = substr(text, RLENGTH + 1)
+      token = ""
+      continue
+    }
     if (token == "/*") {
       end = index(text, "*/")
       if (!end) { commented = 1; break }

@@ -52,6 +52,7 @@ take_files() {
     attend "$tools/preprocess" "$given" "$held/text.i" --marks ${quiet:+--quiet} ${input:+--input "$input"} ${changes[@]+"${changes[@]}"} <"$text" || exit 127
     text=$held/text.i fresh=--fresh
   fi
+  [ -z "$raw" ] || [ -z "$input" ] || [ -n "$quiet" ] || say "note: --raw never preprocesses, so '$input' is not read"
   [ -z "$keep" ] || attend cat -- "$text" >"$keep" || exit 127
 }
 
