@@ -1,6 +1,7 @@
-# awk -f tools/extensions.awk tools/extensions.txt TEXT: a preprocessed text without what means nothing to a run: the word inline, attributes
-# all of whose names are harmless, and pragmas. Each goes to blanks, so that lines and columns stay. Others stay where they are, for the program to
-# refuse them there. ENVIRON has
+# awk -f tools/extensions.awk tools/extensions.txt TEXT: a preprocessed text without what means nothing to a run: the words inline, register and _Noreturn,
+# attributes all of whose names are harmless, and pragmas. Each goes to blanks, so that lines and columns stay. Others stay where they are, for the
+# program to refuse them there. ENVIRON has
+#   AWAY    more words that go, with blanks between them
 #   NAME    the source's name, for places before the first line marker
 #   NOTES   the file for notes: pragmas that are not known, and what DROP takes away
 #   DROP    takes away all of them, and asm labels and __thread, where it is not empty
@@ -14,8 +15,14 @@ BEGIN {
   line = 1
   literal_form = "\"([^\"\\\\]|\\\\.)*\"|'([^'\\\\]|\\\\.)*'|/\\*|//"
   # (where no label is looked for, most tokens are passed over)
-  token_form = literal_form "|__attribute|__attribute__|_Pragma|asm|__asm|__asm__|inline|__thread|__pv_mark|__pv_input_bytes"
+  count = split("inline register _Noreturn " ENVIRON["AWAY"], part, " ")
+  for (i = 1; i <= count; i++) {
+    away[part[i]] = 1
+    words = words "|" part[i]
+  }
+  token_form = literal_form "|__attribute|__attribute__|_Pragma|asm|__asm|__asm__|__thread|__pv_mark|__pv_input_bytes" words
   if (drop) token_form = literal_form "|[A-Za-z_0-9]+|[^ \t\n]"
+  looked_for = "__attribute|_Pragma|__thread|asm|__pv_|/\\*" words
   goes_by = "; --drop attributes takes it away"
   gone = goes_by ", so another program is run"
   asm_words = "asm is assembly, which has no meaning in C17, or gives a name another one: such a label goes by --drop attributes"
@@ -200,8 +207,8 @@ function spanned(token, before, follows) {
 
 # What becomes of a token that stands alone.
 function alone(token, before) {
-  if (token == "inline") {
-    if (tell) note(before, "the word inline is taken away" not_preprocessed)
+  if (token in away) {
+    if (tell) note(before, "the word " token " is taken away" not_preprocessed)
     return blanked(token)
   }
   if (token == "__thread") {
@@ -290,7 +297,7 @@ held == "" && !commented && /^[ \t]*#/ {
   }
   next
 }
-held == "" && !commented && !drop && !/__attribute|_Pragma|inline|__thread|asm|__pv_|\/\*/ { if (!tell) print; line++; next }
+held == "" && !commented && !drop && $0 !~ looked_for { if (!tell) print; line++; next }
 {
   if (begun) {
     held = held "\n" $0

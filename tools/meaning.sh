@@ -11,7 +11,7 @@ show_place() {
     *'refused: size' | *'refused: main') return ;;
   esac
   # (attributes and pragmas that mean something stand there still)
-  NAME=$source NOTES='' DROP='' TELL=yes awk -f "$tools/extensions.awk" "$tools/extensions.txt" "$text" >&2
+  NAME=$source NOTES='' DROP='' AWAY='' TELL=yes awk -f "$tools/extensions.awk" "$tools/extensions.txt" "$text" >&2
   if command -v python3 >/dev/null; then
     attend python3 "$tools/spot" "$program" "$text" "$source" >&2
   else
