@@ -1,0 +1,89 @@
+"""What several rules ask of an expression or a declaration."""
+import re
+
+WRAPPERS = ("ImplicitCastExpr", "ParenExpr", "ConstantExpr")
+
+
+def strip(node):
+    """The expression within parentheses and implicit conversions."""
+    while node["kind"] in WRAPPERS and node["inner"]:
+        node = node["inner"][-1]
+    return node
+
+
+def within(node):
+    """A node and all in it, but for operands of sizeof, which are not evaluated (6.5.3.4p2)."""
+    waiting = [node]
+    while waiting:
+        node = waiting.pop()
+        yield node
+        if node["kind"] != "UnaryExprOrTypeTraitExpr":
+            waiting += reversed(node["inner"])
+
+
+def around(node):
+    """The nodes around a node, the nearest first."""
+    while node["up"]:
+        node = node["up"]
+        yield node
+
+
+def writes(node):
+    """Whether an expression has a side effect of its own: an assignment, ++ or --."""
+    return any(it["kind"] == "CompoundAssignOperator" or it.get("opcode") in ("=", "++", "--") or
+               it["kind"] in ("StmtExpr", "VAArgExpr") for it in within(node))
+
+
+def calls(node):
+    return any(it["kind"] == "CallExpr" for it in within(node))
+
+
+def is_constant(node):
+    """Whether an expression has a value that nothing can change, and no fault: literals, enumerators, sizeof, addresses of what is
+    named, and signs and conversions of those."""
+    node, outer = strip(node), node
+    kind = node["kind"]
+    if kind in ("IntegerLiteral", "CharacterLiteral", "StringLiteral", "UnaryExprOrTypeTraitExpr", "ImplicitValueInitExpr"):
+        return True
+    if kind == "DeclRefExpr":
+        # (the name of an object is read, unless it is an array's)
+        return node["referencedDecl"]["kind"] in ("EnumConstantDecl", "FunctionDecl") or decays(outer)
+    if kind == "UnaryOperator" and node["opcode"] == "&":
+        return strip(node["inner"][0])["kind"] == "DeclRefExpr"
+    if kind == "UnaryOperator":
+        return node["opcode"] in ("+", "-", "~", "!") and is_constant(node["inner"][0])
+    if kind == "CStyleCastExpr":
+        return is_constant(node["inner"][-1])
+    if kind == "InitListExpr":
+        return all(is_constant(it) for it in node["inner"])
+    return False
+
+
+def decays(node):
+    """Whether a conversion from an array to a pointer stands above what was stripped."""
+    while node["kind"] in WRAPPERS:
+        if node.get("castKind") == "ArrayToPointerDecay":
+            return True
+        node = node["inner"][-1]
+    return False
+
+
+def body_of(function):
+    """The block of a function's definition, or None."""
+    return next((it for it in function["inner"] if it["kind"] == "CompoundStmt"), None)
+
+
+def parameters_of(function):
+    return [it for it in function["inner"] if it["kind"] == "ParmVarDecl"]
+
+
+def declare(spelled, name):
+    """A declaration of a name with a type, as clang spells the type."""
+    spelled = spelled.strip()
+    found = re.search(r"\(\*[*\s]*(?:const|volatile|restrict|\s)*", spelled)
+    if found:
+        return spelled[:found.end()] + " " + name + spelled[found.end():]
+    found = re.search(r"\[", spelled)
+    if found:
+        return spelled[:found.start()] + " " + name + spelled[found.start():]
+    return spelled + " " + name

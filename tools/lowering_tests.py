@@ -1,0 +1,115 @@
+"""The self-test of tools/lower: the programs of tools/lowering-programs, and what the launcher's user reads.
+
+Each program says in its first lines, which begin with `//!`, what is wanted of it:
+  uses RULE            the rule that writes it out is used (standard error says so)
+  left REASON          a form is left, for this reason, and the program refuses the text
+  fault VERDICT        the report, without its turn: it was written down from C17 before the rule was run
+  said TEXT            standard output before the fault, with \\n for line feeds
+  defined              output and status are those of gcc and clang at -O0 and -O2
+  args WORD..          behind --args
+"""
+import glob
+import os
+import re
+import shlex
+import shutil
+import subprocess
+import tempfile
+from concurrent.futures import ThreadPoolExecutor
+
+HERE = os.path.dirname(os.path.realpath(__file__))
+BUILT = os.path.join(HERE, "..", "crates", "pvrun", "out", "pvrun")
+COMPILERS = [it for it in ("gcc", "clang") if shutil.which(it)]
+TURNS = "10000000"
+
+
+def call(words, **options):
+    return subprocess.run(words, stdin=subprocess.DEVNULL, stdout=subprocess.PIPE, stderr=subprocess.PIPE, timeout=300, **options)
+
+
+class Run:
+    """A program preprocessed, lowered and run: what was said of the rules, its output, its report."""
+
+    def __init__(self, program, source, room, arguments=(), only=None):
+        text, lowered = os.path.join(room, "text.i"), os.path.join(room, "lowered.i")
+        name = os.path.basename(source)
+        done = call([os.path.join(HERE, "preprocess"), source, text, "-D__pv_lower"])
+        assert done.returncode == 0, done.stderr.decode()
+        words = [os.path.join(HERE, "lower"), text, lowered, "--name", name] + (["--only", only] if only else [])
+        done = call(words + (["--args"] + list(arguments) if arguments else []))
+        self.notes, self.status = done.stderr.decode(), done.returncode
+        done = call([program, "run", lowered, "--turns", TURNS])
+        lines = done.stdout.decode("latin1")
+        at = lines.rstrip("\n").rfind("\n") + 1
+        found = re.search(r"(exit status=|undefined |indeterminate |undecided |abort |storage |placement |turns |refused )[^\n]*\n$", lines)
+        at = found.start() if found else at
+        self.output, self.report = lines[:at], re.sub(r" turn=\d+", "", lines[at:].strip())
+
+
+def wanted_of(source):
+    with open(source, encoding="latin1") as file:
+        return [it[4:].rstrip("\n").split(" ", 1) for it in file if it.startswith("//! ")]
+
+
+def compiled(source, room, arguments):
+    """Output and status by each compiler at each level."""
+    for compiler in COMPILERS:
+        for level in ("-O0", "-O2"):
+            program = os.path.join(room, "compiled")
+            done = call([compiler, "-std=c17", level, "-w", "-o", program, source])
+            if done.returncode:
+                yield compiler + level, "does not compile it: " + done.stderr.decode()[:300], ""
+                continue
+            done = call([program] + list(arguments))
+            yield compiler + level, done.stdout.decode("latin1"), "exit status=%d" % done.returncode
+
+
+def same(run, output, report):
+    found = re.match(r"exit status=(-?\d+)", run.report)
+    return bool(found) and run.output == output and "exit status=%d" % (int(found[1]) % 256) == report
+
+
+def try_program(program, source):
+    """What is wrong with one program of the folder."""
+    wanted = wanted_of(source)
+    arguments = next((shlex.split(it[1]) for it in wanted if it[0] == "args"), [])
+    room = tempfile.mkdtemp()
+    try:
+        run = Run(program, source, room, arguments)
+        for kind, *rest in wanted:
+            text = rest[0] if rest else ""
+            if kind == "uses" and "lowered: " + text not in run.notes:
+                yield "the rule '%s' is not used: %s" % (text, run.notes)
+            if kind == "left" and not re.search("left.*" + re.escape(text), run.notes):
+                yield "nothing is left for '%s': %s" % (text, run.notes)
+            if kind == "left" and not run.report.startswith("refused"):
+                yield "left, and not refused: " + run.report
+            if kind == "fault" and run.report != text:
+                yield "wanted %s, got %s (%s)" % (text, run.report, run.notes)
+            if kind == "said" and run.output != text.replace("\\n", "\n"):
+                yield "wanted the output %r, got %r" % (text, run.output)
+            if kind == "defined":
+                for by, output, report in compiled(source, room, arguments):
+                    if not same(run, output, report):
+                        yield "%s: %r %s, and here: %r %s (%s)" % (by, output, report, run.output, run.report, run.notes)
+        if not wanted:
+            yield "it says nothing of what is wanted"
+    finally:
+        shutil.rmtree(room)
+
+
+def main(words):
+    program = os.path.abspath(words[0] if words else BUILT)
+    if not os.access(program, os.X_OK):
+        print("lower: no program; run ./pvrun first")
+        return 1
+    only = words[1] if len(words) > 1 else ""
+    sources = sorted(it for it in glob.glob(os.path.join(HERE, "lowering-programs", "*.c")) if only in it)
+    failed = 0
+    with ThreadPoolExecutor(2) as pool:
+        for source, wrong in zip(sources, pool.map(lambda it: list(try_program(program, it)), sources)):
+            failed += bool(wrong)
+            for it in wrong:
+                print("%s: %s" % (os.path.basename(source), it))
+    print("%d passed, %d failed" % (len(sources) - failed, failed))
+    return int(failed > 0)
