@@ -8,7 +8,7 @@ third parameter, an array's size in the parameters (6.9.1p10 evaluates it).
 """
 import re
 
-from lowering.forms import body_of, declare, parameters_of
+from lowering.forms import body_of, declare, parameters_of, unqualified
 from lowering.text import Left
 
 NAME = "main's parameters"
@@ -24,7 +24,8 @@ def check(text, main):
            it["referencedDecl"]["kind"] == "FunctionDecl" for it in text.nodes):
         raise Left(main["b"], "the program names main itself")
     words = parameters_of(main)
-    if len(words) != 2 or not re.fullmatch(r"int \(int, char ?\*\*\)", text.plain(main["type"]["qualType"])):
+    kinds = [unqualified(text.type_of(it)).replace(" ", "") for it in words]
+    if kinds != ["int", "char**"] or not text.plain(main["type"]["qualType"]).startswith("int ("):
         raise Left(main["b"], "main has another type than int (int, char **)")
     if not all(it.get("name") for it in words):
         raise Left(main["b"], "a parameter without a name")

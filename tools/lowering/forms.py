@@ -87,3 +87,10 @@ def declare(spelled, name):
     if found:
         return spelled[:found.start()] + " " + name + spelled[found.start():]
     return spelled + " " + name
+
+
+def unqualified(spelled):
+    """A type without the qualifiers of the object itself."""
+    if "*" not in spelled:
+        return re.sub(r"\b(const|volatile|restrict)\b ?", "", spelled).strip()
+    return re.sub(r"\*\s*(const|volatile|restrict|\s)+$", "*", spelled)

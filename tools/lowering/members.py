@@ -14,10 +14,12 @@ def apply(text, notes):
     names = {}
     for node in text.nodes:
         if node["kind"] == "FieldDecl" and not node.get("name") and not node.get("isBitfield"):
-            record = next((it for it in node["up"]["inner"] if it["kind"] == "RecordDecl" and it["b"] <= node["b"] < it["e"]), None)
+            records = [it for it in node["up"]["inner"] if it["kind"] == "RecordDecl"]
+            record = next((it for it in records if it["b"] <= node["b"] < it["e"] or node["b"] <= it["b"] < node["e"]), None)
             if record:
                 names[node["id"]] = text.name("member")
-                text.insert(text.past(record) - 1, " " + names[node["id"]])
+                end = next(at for at, token in text.tokens(record["e"], node["up"]["e"]) if token == ";")
+                text.insert(end, " " + names[node["id"]])
                 notes.used(NAME, node["b"])
     for node in text.nodes:
         if node["kind"] == "MemberExpr" and node.get("name") and node["inner"][0]["kind"] == "MemberExpr":

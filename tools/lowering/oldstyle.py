@@ -3,39 +3,39 @@
 C17 6.9.1p7, p10 and 6.5.2.2p6: a call without a prototype promotes its arguments, and is undefined unless they are as many as the
 parameters, and of compatible types. With the prototype each is converted to its parameter, as by assignment, which does what 6.9.1p10 does.
 Exact where each call in the text hands over as many arguments as there are parameters, each of its parameter's promoted type (an integer of
-the other sign only where it is a constant that both have; `void *` and character pointers for each other). Left: a call that doesn't fit, a
-function whose address is taken.
+the other sign only where it is a constant that both have; `void *` and character pointers for each other). The promotion of a character or a
+short is an operation of its own, so it is written: `+(c)`. Left: a call that doesn't fit, a function whose address is taken, a parameter of
+type _Bool.
 """
 import re
 
-from lowering.forms import body_of, declare, parameters_of
+from lowering.forms import body_of, declare, parameters_of, strip, unqualified
 from lowering.text import Left
 
 NAME = "definitions of the old style"
-SMALL = ("_Bool", "char", "signed char", "unsigned char", "short", "unsigned short")
+SMALL = ("char", "signed char", "unsigned char", "short", "unsigned short", "_Bool")
 
 
 def promoted(spelled):
     return "int" if spelled in SMALL else spelled
 
 
-def unqualified(spelled):
-    return re.sub(r"\b(const|volatile|restrict)\b ?", "", spelled).strip() if "*" not in spelled else \
-        re.sub(r"\*\s*(const|volatile|restrict|\s)+$", "*", spelled)
+def before_conversion(given):
+    """The argument as it is written; clang converts it to the parameter of a definition that it has seen."""
+    while given["kind"] == "ImplicitCastExpr" and given["castKind"] in ("IntegralCast", "BitCast", "NullToPointer", "NoOp", "IntegralToBoolean"):
+        given = given["inner"][0]
+    return given
 
 
 def fits(text, given, parameter):
     """Whether an argument of a call without a prototype has a type that is compatible with its parameter's."""
-    have, want = unqualified(text.type_of(given)), promoted(unqualified(text.type_of(parameter)))
+    have, want = promoted(unqualified(text.type_of(given))), promoted(unqualified(text.type_of(parameter)))
     if have.replace(" ", "") == want.replace(" ", ""):
         return True
     characters = re.compile(r"(const )?((un)?signed )?(char|void) \*$")
     if characters.match(have) and characters.match(want):
         return "void" in have + want or have.replace("const ", "") == want.replace("const ", "")
-    literal = given
-    while literal["kind"] in ("ImplicitCastExpr", "ParenExpr"):
-        literal = literal["inner"][-1]
-    return literal["kind"] == "IntegerLiteral" and have.replace("unsigned ", "") == want.replace("unsigned ", "")
+    return strip(given)["kind"] == "IntegerLiteral" and have.replace("unsigned ", "") == want.replace("unsigned ", "")
 
 
 def check_calls(text, name, parameters, is_old):
@@ -51,9 +51,12 @@ def check_calls(text, name, parameters, is_old):
         if len(given) != len(parameters):
             raise Left(call["b"], "a call with another number of arguments")
         if re.search(r"\(\)", node["type"]["qualType"]) or is_old:
-            for it, parameter in zip(given, parameters):
-                if not is_old and unqualified(text.type_of(parameter)) in SMALL or not fits(text, it, parameter):
+            for it, parameter in zip(map(before_conversion, given), parameters):
+                kind = unqualified(text.type_of(parameter))
+                if kind == "_Bool" or not is_old and kind in SMALL or not fits(text, it, parameter):
                     raise Left(it["b"], "an argument whose type is not its parameter's")
+                if unqualified(text.type_of(it)) in SMALL:
+                    text.edit(it["b"], it["e"], "+(", (it["b"], it["e"]), ")")
 
 
 def is_old_definition(text, function):

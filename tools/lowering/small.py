@@ -188,8 +188,8 @@ class Promises:
         for _, token in tokens[2:index]:
             depth += (token in "([") - (token in ")]")
             which += token == "," and depth == 0
-        size = next((token for _, token in tokens[index + 1:] if token != "const"), "")
-        if depth != 1 or not re.fullmatch(r"[1-9]\d*", size):
+        size = tokens[index + 1][1]
+        if depth != 1 or tokens[index - 1][1] != "[" or not re.fullmatch(r"[1-9]\d*", size):
             raise Left(at, "its size is no plain number")
         for node in text.nodes:
             if node["kind"] == "DeclRefExpr" and node["referencedDecl"].get("name") == function["name"] and \
