@@ -36,6 +36,10 @@ enum { __error_stream = 32, __input_stream = 48 };
 #define stdin ((FILE *)__input_stream)
 
 int printf(const char *, ...);
+#ifdef __pv_lower
+int sprintf(char *, const char *, ...);
+int snprintf(char *, size_t, const char *, ...);
+#endif
 
 static void __must_be_stream(FILE *__stream) {
   if (__stream != (FILE *)16 && __stream != (FILE *)32) {

@@ -4,7 +4,7 @@ import os
 import re
 import shutil
 
-from lowering import arguments, initializers, members, oldstyle, prune, scopes, small
+from lowering import arguments, initializers, members, oldstyle, printf, prune, scopes, small
 from lowering.text import Left, Refused, Text
 
 # Each is asked once, of the text that the rules before it wrote.
@@ -23,6 +23,7 @@ RULES = {
     "func": small.FunctionNames(),
     "values": small.LibraryValues(),
     "switch": small.Switches(),
+    "printf": printf,
 }
 
 

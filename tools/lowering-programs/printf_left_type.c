@@ -1,0 +1,3 @@
+//! left a wrong type for %lld
+#include <stdio.h>
+int main(void) { return printf("%lld", 1); }
