@@ -4,7 +4,7 @@ import os
 import re
 import shutil
 
-from lowering import arguments, initializers, members, oldstyle, printf, prune, scopes, small
+from lowering import arguments, initializers, literals, members, oldstyle, printf, prune, scopes, small
 from lowering.text import Left, Refused, Text
 
 # Each is asked once, of the text that the rules before it wrote.
@@ -19,6 +19,7 @@ RULES = {
     "alignof": small.Alignments(),
     "promises": small.Promises(),
     "initializers": initializers,
+    "literals": literals,
     "members": members,
     "func": small.FunctionNames(),
     "values": small.LibraryValues(),

@@ -50,6 +50,13 @@ class Raw:
         self.begin, self.end = node["b"], node["e"]
 
 
+def bare(node):
+    """Without the node that says that clang has the value."""
+    while node["kind"] == "ConstantExpr" and node.get("inner"):
+        node = node["inner"][0]
+    return node
+
+
 class Text:
     """A text and clang's tree of it. `nodes` are all nodes in order; a node has `b` and `e`, its bytes, and `up`, the node around it."""
 
@@ -87,7 +94,7 @@ class Text:
             node["b"], node["e"] = begin.get("offset", -1), end.get("offset", -1) + end.get("tokLen", 0)
             node["up"] = up
             # (a filler of the rest of an array stands before the elements that are written)
-            node["inner"] = [it for it in node.get("inner", node.get("array_filler", [])[1:]) if it.get("kind")]
+            node["inner"] = [bare(it) for it in node.get("inner", node.get("array_filler", [])[1:]) if it.get("kind")]
             self.nodes.append(node)
             self.by_id[node.get("id")] = node
             waiting += [(it, node) for it in reversed(node["inner"])]
