@@ -4,7 +4,7 @@ import os
 import re
 import shutil
 
-from lowering import arguments, initializers, literals, members, oldstyle, printf, prune, scopes, small
+from lowering import arguments, gotos, initializers, literals, members, oldstyle, printf, prune, scopes, small
 from lowering.text import Left, Refused, Text
 
 # Each is asked once, of the text that the rules before it wrote.
@@ -24,6 +24,7 @@ RULES = {
     "func": small.FunctionNames(),
     "values": small.LibraryValues(),
     "switch": small.Switches(),
+    "goto": gotos,
     "printf": printf,
 }
 
