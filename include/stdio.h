@@ -39,6 +39,10 @@ int printf(const char *, ...);
 #ifdef __pv_lower
 int sprintf(char *, const char *, ...);
 int snprintf(char *, size_t, const char *, ...);
+int vprintf(const char *, __builtin_va_list);
+int vsprintf(char *, const char *, __builtin_va_list);
+int vsnprintf(char *, size_t, const char *, __builtin_va_list);
+#define vfprintf(stream, format, list) (__must_be_stream(stream), vprintf(format, list))
 #endif
 
 static void __must_be_stream(FILE *__stream) {

@@ -6,7 +6,8 @@ call's line and has one parameter an argument, of the argument's promoted type: 
 (missing) sequence points (6.5.2.2p10), pointers go in flight, and a value that doesn't fit is told as 7.21.6.1p9. The function makes the texts of
 the numbers, and hands all over to one printf of the language's own: a call that stops has written nothing.
 Left: other formats than literals, conversions of floating-point numbers, wide characters and %n, flags that mean nothing or are undefined
-with their conversion (p6), wrong types (they are refused), arguments beyond the conversions, more than 4095 characters (p15).
+with their conversion (p6), wrong types (they are refused), fewer arguments than conversions, other arguments beyond them than numbers, more
+than 4095 characters (p15).
 Other than it was: a string with a width or a precision, and each string of sprintf, is read here byte by byte: one that leaves its object is
 told by the clause of that access (6.5.3.2p4 in place of 7.1.4p1), in its line and with its reason; default places of later objects.
 """
@@ -222,8 +223,11 @@ class Rewriter:
         rest = given[which + 1:]
         if name == "printf" and all(it.is_plain and it.length in (None, "l") and it.kind != "i" for it in conversions):
             return
-        if len(rest) != count:
-            raise Left(node["b"], "another number of arguments than the format takes")
+        if len(rest) < count:
+            raise Left(node["b"], "fewer arguments than the format takes")
+        for it in rest[count:]:
+            if promoted(self.text, it).replace("unsigned ", "") not in KINDS.values():
+                raise Left(it["b"], "an argument that no conversion takes, and that is no number")
         for it in conversions:
             check_types(self.text, it, rest)
         if name == "printf" and all(it.is_plain for it in conversions):

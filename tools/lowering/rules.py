@@ -4,7 +4,7 @@ import os
 import re
 import shutil
 
-from lowering import arguments, gotos, initializers, literals, members, oldstyle, printf, prune, scopes, small
+from lowering import arguments, gotos, initializers, literals, members, oldstyle, printf, prune, scopes, small, variadic
 from lowering.text import Left, Refused, Text
 
 # Each is asked once, of the text that the rules before it wrote.
@@ -25,6 +25,7 @@ RULES = {
     "values": small.LibraryValues(),
     "switch": small.Switches(),
     "goto": gotos,
+    "variadic": variadic,
     "printf": printf,
 }
 

@@ -1,0 +1,8 @@
+//! uses functions with ...
+//! said ok 1\n
+//! fault undefined clause=7.21.6.1p9 reason=format line=7
+#include <stdio.h>
+#include <stdarg.h>
+static int say(const char *format, ...) { va_list l; int n; va_start(l, format);
+  n = vprintf(format, l); va_end(l); return n; }
+int main(void) { say("ok %d\n", 1); return say("not %d %s\n", 1); }
