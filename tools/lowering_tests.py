@@ -17,6 +17,8 @@ import subprocess
 import tempfile
 from concurrent.futures import ThreadPoolExecutor
 
+import lowering_pairs
+
 HERE = os.path.dirname(os.path.realpath(__file__))
 BUILT = os.path.join(HERE, "..", "crates", "pvrun", "out", "pvrun")
 COMPILERS = [it for it in ("gcc", "clang") if shutil.which(it)]
@@ -25,6 +27,13 @@ TURNS = "10000000"
 
 def call(words, **options):
     return subprocess.run(words, stdin=subprocess.DEVNULL, stdout=subprocess.PIPE, stderr=subprocess.PIPE, timeout=300, **options)
+
+
+def parted(lines):
+    """The output, and the report without its turn."""
+    found = re.search(r"(exit status=|undefined |indeterminate |undecided |abort |storage |placement |turns |refused )[^\n]*\n$", lines)
+    at = found.start() if found else len(lines)
+    return lines[:at], re.sub(r" turn=\d+", "", lines[at:].strip())
 
 
 class Run:
@@ -39,11 +48,7 @@ class Run:
         done = call(words + (["--args"] + list(arguments) if arguments else []))
         self.notes, self.status = done.stderr.decode(), done.returncode
         done = call([program, "run", lowered, "--turns", TURNS])
-        lines = done.stdout.decode("latin1")
-        at = lines.rstrip("\n").rfind("\n") + 1
-        found = re.search(r"(exit status=|undefined |indeterminate |undecided |abort |storage |placement |turns |refused )[^\n]*\n$", lines)
-        at = found.start() if found else at
-        self.output, self.report = lines[:at], re.sub(r" turn=\d+", "", lines[at:].strip())
+        self.output, self.report = parted(done.stdout.decode("latin1"))
 
 
 def wanted_of(source):
@@ -98,6 +103,49 @@ def try_program(program, source):
         shutil.rmtree(room)
 
 
+def try_pair(program, rule, seed):
+    """What is wrong with one pair, and the kind of its verdict."""
+    form, plain, arguments = lowering_pairs.pair(rule, seed)
+    room = tempfile.mkdtemp()
+    try:
+        for name, text in (("form.c", form), ("plain.c", plain)):
+            with open(os.path.join(room, name), "w", encoding="ascii") as file:
+                file.write(text)
+        form_run = Run(program, os.path.join(room, "form.c"), room, arguments)
+        done = call([program, "run", os.path.join(room, "plain.c"), "--turns", TURNS])
+        plain_output, plain_report = parted(done.stdout.decode("latin1"))
+        if (form_run.output, form_run.report) == (plain_output, plain_report) and not plain_report.startswith("refused"):
+            return plain_report.split(" line")[0].split(" status")[0], None
+        return "differs", "%s %d: %r %s, and in plain words %r %s\n%s%s" % (
+            rule, seed, form_run.output, form_run.report, plain_output, plain_report, form_run.notes, form)
+    finally:
+        shutil.rmtree(room)
+
+
+def try_pairs(program, count, only=""):
+    """That many pairs of each rule: how many differ, and how the others ended."""
+    failed, kinds = 0, {}
+    rows = [(rule, seed) for rule in lowering_pairs.RULES if only in rule for seed in range(count)]
+    with ThreadPoolExecutor(2) as pool:
+        for (rule, _), (kind, wrong) in zip(rows, pool.map(lambda it: try_pair(program, *it), rows)):
+            kinds.setdefault(rule, {}).setdefault(kind, 0)
+            kinds[rule][kind] += 1
+            failed += wrong is not None
+            if wrong:
+                print(wrong)
+    return len(rows) - failed, failed, kinds
+
+
+def main_pairs(words):
+    """tools/lower --pairs COUNT [PROGRAM [RULE]]"""
+    program = os.path.abspath(words[1] if len(words) > 1 else BUILT)
+    passed, failed, kinds = try_pairs(program, int(words[0]), words[2] if len(words) > 2 else "")
+    for rule, found in kinds.items():
+        print("%s: %s" % (rule, ", ".join("%s %d" % it for it in sorted(found.items(), key=lambda it: -it[1]))))
+    print("%d passed, %d failed" % (passed, failed))
+    return int(failed > 0)
+
+
 def main(words):
     program = os.path.abspath(words[0] if words else BUILT)
     if not os.access(program, os.X_OK):
@@ -105,11 +153,11 @@ def main(words):
         return 1
     only = words[1] if len(words) > 1 else ""
     sources = sorted(it for it in glob.glob(os.path.join(HERE, "lowering-programs", "*.c")) if only in it)
-    failed = 0
+    pairs, failed, _ = try_pairs(program, 5, only) if not only or only in lowering_pairs.RULES else (0, 0, {})
     with ThreadPoolExecutor(2) as pool:
         for source, wrong in zip(sources, pool.map(lambda it: list(try_program(program, it)), sources)):
             failed += bool(wrong)
             for it in wrong:
                 print("%s: %s" % (os.path.basename(source), it))
-    print("%d passed, %d failed" % (len(sources) - failed, failed))
+    print("%d passed, %d failed" % (len(sources) + 5 * len(lowering_pairs.RULES) * (pairs > 0) - failed, failed))
     return int(failed > 0)
