@@ -25,8 +25,8 @@ COMPILERS = [it for it in ("gcc", "clang") if shutil.which(it)]
 TURNS = "10000000"
 
 
-def call(words, **options):
-    return subprocess.run(words, stdin=subprocess.DEVNULL, stdout=subprocess.PIPE, stderr=subprocess.PIPE, timeout=300, **options)
+def call(words):
+    return subprocess.run(words, stdin=subprocess.DEVNULL, stdout=subprocess.PIPE, stderr=subprocess.PIPE, timeout=300)
 
 
 def parted(lines):

@@ -48,7 +48,12 @@ def apply(text, notes):
             raise Left(it["b"], "main is declared in another way")
         if it is not main and it["type"]["qualType"] == "int ()":
             continue
-        close = begin + re.sub(r"\s+$", "", text.text[begin:end]).rindex(")") + 1
+        depth = 0
+        for at, token in text.tokens(begin, end):
+            depth += (token == "(") - (token == ")")
+            if depth == 0:
+                break
+        close = at + 1
         text.blank(begin, close)
         text.insert(begin, "(void)")
         notes.used(NAME, begin)

@@ -159,10 +159,10 @@ class Block:
         if re.search(r"\bconst\b", own) or re.search(r"\((unnamed|anonymous)", spelled):
             raise Left(it["b"], "a declaration between labels of a const object, or of a type without a name")
         begin = self.items[self.first]["b"]
-        names = self.text.names_in(begin, it["loc"]["offset"])
+        names = self.text.ordinary_names_in(begin, it["loc"]["offset"])
         if it.get("init"):
             value = it["inner"][-1]
-            names += self.text.names_in(value["b"], value["e"])
+            names += self.text.ordinary_names_in(value["b"], value["e"])
             if value["kind"] == "InitListExpr" or kind.endswith("]"):
                 raise Left(it["b"], "a list between labels")
             if again and writes(value):

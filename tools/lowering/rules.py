@@ -1,5 +1,6 @@
 """The rules in their order, and what is said of them."""
 import contextlib
+import copy
 import os
 import re
 import shutil
@@ -85,12 +86,16 @@ def joined(spans):
 
 def ask(name, rule, text, notes):
     """One rule: what it writes, or the text as it is."""
-    notes.text = text
+    notes.text, lines = text, copy.deepcopy(notes.lines)
     try:
         rule.apply(text, notes)
     except Left as left:
-        text.edits = []
+        text.edits, notes.lines = [], lines
         notes.leave(rule.NAME, left)
+    except (LookupError, ValueError, TypeError, AttributeError, StopIteration, RecursionError) as error:
+        # (a fault of the rule's own leaves the text as it is, and is told)
+        text.edits, notes.lines = [], lines
+        notes.left.append("left: %s: the rule itself failed: %r" % (rule.NAME, error))
     return text.render() if text.edits else text.text
 
 
@@ -109,7 +114,7 @@ def lower(text, file, clang, notes, wanted=None):
         if wanted is not None and name not in wanted:
             continue
         for _ in range(getattr(rule, "TIMES", 1)):
-            lines, left = dict(notes.lines), list(notes.left)
+            lines, left = copy.deepcopy(notes.lines), list(notes.left)
             written = ask(name, rule, tree, notes)
             if written == tree.text:
                 break

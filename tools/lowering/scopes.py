@@ -7,6 +7,7 @@ nothing else in the places that come to see it. Left: a typedef name, or a tag o
 size is no constant (6.7.8p3 evaluates it).
 """
 import re
+from collections import Counter
 
 from lowering.forms import around
 from lowering.text import Left, Raw
@@ -41,7 +42,9 @@ def check(text, node, moved):
     within_block = {name for it in text.nodes if it["kind"] in DECLARING and it.get("name") and text.function_of(it) is function and
                     it is not function and it["kind"] != "FieldDecl" and not node["b"] <= it["b"] < node["e"] and it["b"] not in moved
                     for name in (it["name"],)}
-    used = set(text.names_in(node["b"], node["e"])) - mine
+    used = Counter(text.names_in(node["b"], node["e"]))
+    used.subtract(it["name"] for it in text.nodes if it["kind"] == "FieldDecl" and it.get("name") and node["b"] <= it["b"] < node["e"])
+    used = set(+used) - mine
     if used & within_block:
         raise Left(node["b"], "it names '%s', which a block declares" % sorted(used & within_block)[0])
     if mine & within_block:
@@ -59,6 +62,10 @@ def check(text, node, moved):
 def apply(text, notes):
     statements = [it for it in text.nodes if it["kind"] == "DeclStmt" and it["inner"] and is_moved(it)]
     moved = {inner["b"] for it in statements for inner in it["inner"] if inner["kind"] in ("TypedefDecl", "RecordDecl", "EnumDecl")}
+    for node in text.nodes:
+        if node["kind"] == "DeclStmt" and node not in statements and any(
+                it["kind"] in ("TypedefDecl", "FunctionDecl") or it.get("storageClass") == "extern" for it in node["inner"]):
+            notes.leave(NAME, Left(node["b"], "a declaration of several kinds"))
     for node in statements:
         with notes.attempt(NAME, text):
             check(text, node, moved)

@@ -14,6 +14,7 @@ FLAGS = ["-pedantic-errors", "-fno-builtin", "-Wno-extra-semi", "-Wno-gnu-empty-
 MARKER = re.compile(r'^[ \t]*#[ \t]*(\d+)[ \t]+("(?:[^"\\\n]|\\.)*")[^\n]*$', re.M)
 TOKEN = re.compile(r"""/\*.*?\*/|//[^\n]*|^[ \t]*\#[^\n]*|"(?:\\.|[^"\\\n])*"|'(?:\\.|[^'\\\n])*'|[A-Za-z_]\w*|\.?\d(?:[eEpP][+-]|[\w.])*|\.\.\.|\S""",
                    re.S | re.M)
+LINE = re.compile(r'\n(?:[ \t]*#[ \t]*\d+[ \t]+"[^\n]*)?')
 IDENTIFIER = re.compile(r"[A-Za-z_]\w*")
 
 
@@ -138,6 +139,12 @@ class Text:
     def names_in(self, begin, end):
         return [token for _, token in self.tokens(begin, end) if IDENTIFIER.match(token)]
 
+    def ordinary_names_in(self, begin, end):
+        """The same without tags, members and labels (6.2.3p1)."""
+        tokens = [token for _, token in self.tokens(begin, end)]
+        return [token for before, token in zip([""] + tokens, tokens) if IDENTIFIER.match(token) and
+                before not in ("struct", "union", "enum", ".", "->", "goto")]
+
     def top_of(self, node):
         """The external declaration that a node stands in."""
         while node["up"] is not self.tree:
@@ -210,7 +217,7 @@ class Text:
 
     def blank(self, begin, end):
         """Nothing stands there; the lines stay."""
-        lines = [(begin + it.start(), begin + it.end()) for it in re.finditer(r"\n(?:[ \t]*#[^\n]*)?", self.text[begin:end])]
+        lines = [(begin + it.start(), begin + it.end()) for it in LINE.finditer(self.text[begin:end])]
         self.edit(begin, end, " ", *lines)
 
     def before(self, node, *pieces):
