@@ -20,8 +20,12 @@ read_words() {
     *.c | *.i) slip="'$mode' is no mode; try pvrun run $mode" ;;
     *) slip="'$mode' is no mode (run, settle, check, layout, gen, replay, step, page, explore, suite)" ;;
   esac
+  lowering=()
   [ $# -le 2 ] || read_options "${@:3}"
   [ -z "$leaks" ] || [ -z "$quiet" ] || [ -n "$slip" ] || slip='--leaks says words, and --quiet wants none'
+  [ -z "$raw" ] || [ "${#lowering[@]}" = 0 ] || slip='--lower reads what was preprocessed, so it goes not with --raw'
+  # (they stand behind all other options of preprocessing)
+  [ "${#lowering[@]}" = 0 ] || changes+=(--lower ${quiet:+--quiet} "${lowering[@]:1}")
 }
 
 read_options() {
@@ -33,6 +37,12 @@ read_options() {
       *--raw) raw=yes && shift && continue ;;
       run--leaks) leaks=yes && shift && continue ;;
       *--report | *--keep | *--drop | *--input | *-[IDU]) ;;
+      *--lower) lowering=(--lower) && shift && continue ;;
+      run--args | settle--args)
+        [ "${#lowering[@]}" -gt 0 ] || slip='--args hands arguments to a main that --lower writes out, and stands last, behind --lower'
+        lowering+=("$@")
+        return
+        ;;
       *-[IDU]?*) changes+=("$1") && shift && continue ;;
       run--script | run--turns | run--zap | run--watch | run--sarif | run--stderr | settle--stderr) ;;
       settle--script | settle--turns | settle--zap | settle--sides) ;;
