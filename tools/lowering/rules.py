@@ -8,6 +8,9 @@ import shutil
 from lowering import arguments, gotos, initializers, literals, members, oldstyle, printf, prune, scopes, small, variadic
 from lowering.text import Left, Refused, Text
 
+# The project's own headers: of what is written out in them the number is told, and no line.
+HEADERS = os.path.realpath(os.path.join(os.path.dirname(os.path.realpath(__file__)), "..", "..", "include"))
+
 # Each is asked once, of the text that the rules before it wrote.
 RULES = {
     "prune": prune,
@@ -68,7 +71,8 @@ class Notes:
         for name, files in self.lines.items():
             places = []
             for file, spans in files.items():
-                places.append(file + ":" + ",".join(joined(spans)))
+                own = os.path.realpath(os.path.dirname(file)) == HEADERS
+                places.append("%s (%d)" % (os.path.basename(file), len(spans)) if own else file + ":" + ",".join(joined(spans)))
             yield "lowered: %s: %s" % (name, " ".join(places))
         yield from self.left
 
