@@ -22,14 +22,14 @@ _pvrun() {
     --turns | --sides | gen) return ;;
   esac
   case $mode$word in
-    run-*) COMPREPLY=($(compgen -W '--script --turns --zap --watch --raw --keep --drop --input --stderr --report --sarif --leaks --quiet -I -D -U' -- "$word")) ;;
-    settle-*) COMPREPLY=($(compgen -W '--script --turns --zap --sides --raw --keep --drop --input --stderr --report --quiet -I -D -U' -- "$word")) ;;
-    check-* | layout-*) COMPREPLY=($(compgen -W '--raw --keep --drop --input --report --quiet -I -D -U' -- "$word")) ;;
-    step-*) COMPREPLY=($(compgen -W '--script --raw --keep --drop --input -I -D -U' -- "$word")) ;;
-    replay-*) COMPREPLY=($(compgen -W '--script --turns --raw --keep --drop --input -I -D -U' -- "$word")) ;;
-    page-*) COMPREPLY=($(compgen -W '--script --turns -o --listen --programs --help' -- "$word")) ;;
-    explore-*) COMPREPLY=($(compgen -W '--script --turns --keep --jobs --most --programs --help' -- "$word")) ;;
-    suite-*) COMPREPLY=($(compgen -W '--raw --drop --record --tap --junit --sarif --jobs --hosts --program --help -I -D -U' -- "$word")) ;;
+    run-*) COMPREPLY=($(compgen -W '--script --turns --zap --watch --raw --lower --keep --drop --input --stderr --report --sarif --leaks --quiet -I -D -U' -- "$word")) ;;
+    settle-*) COMPREPLY=($(compgen -W '--script --turns --zap --sides --raw --lower --keep --drop --input --stderr --report --quiet -I -D -U' -- "$word")) ;;
+    check-* | layout-*) COMPREPLY=($(compgen -W '--raw --lower --keep --drop --input --report --quiet -I -D -U' -- "$word")) ;;
+    step-*) COMPREPLY=($(compgen -W '--script --raw --lower --keep --drop --input -I -D -U' -- "$word")) ;;
+    replay-*) COMPREPLY=($(compgen -W '--script --turns --raw --lower --keep --drop --input -I -D -U' -- "$word")) ;;
+    page-*) COMPREPLY=($(compgen -W '--lower --script --turns -o --listen --programs --help' -- "$word")) ;;
+    explore-*) COMPREPLY=($(compgen -W '--lower --script --turns --keep --jobs --most --programs --help' -- "$word")) ;;
+    suite-*) COMPREPLY=($(compgen -W '--raw --lower --drop --record --tap --junit --sarif --jobs --hosts --program --help -I -D -U' -- "$word")) ;;
     gen*) COMPREPLY=($(compgen -W '--report --quiet' -- "$word")) ;;
     *) compopt -o filenames 2>/dev/null; mapfile -t COMPREPLY < <(compgen -f -- "$word") ;;
   esac
