@@ -99,16 +99,16 @@ class Source(NamedTuple):
     is_fresh: bool
 
 
-def take_source(name: str, room: str) -> Source:
-    """Reads the file once, since it may be a pipe, and preprocesses it where it has directives."""
+def take_source(name: str, room: str, is_lowered: bool = False) -> Source:
+    """Reads the file once, since it may be a pipe, and preprocesses it where it has directives, or is to be written out by tools/lower."""
     held, text = f"{room}/source.c", f"{room}/text.i"
     source = read(name)
     write(held, source)
-    if not has_directives(source):
+    if not is_lowered and not has_directives(source):
         return Source(held, name, False)
     given = name if os.path.isfile(name) else "-"
     with open(held, "rb") as file:
-        if subprocess.run([f"{HERE}/preprocess", given, text], stdin=file).returncode:
+        if subprocess.run([f"{HERE}/preprocess", given, text, *(["--lower"] * is_lowered)], stdin=file).returncode:
             raise Fault(f"'{shown(name)}' could not be preprocessed")
     return Source(text, name, True)
 

@@ -1,6 +1,7 @@
 """For tools/page: the proved programs over one source, in a folder of its own and within bounds, and what they answer."""
 import os
 import re
+import sys
 from dataclasses import dataclass, field
 from typing import Optional
 
@@ -30,6 +31,7 @@ class Asked:
     script: Optional[bytes] = None
     turns: Optional[int] = None
     mode: str = "run"
+    is_lowered: bool = False  # whether tools/lower writes out what the language leaves out
 
 
 @dataclass
@@ -87,7 +89,7 @@ class Question:
         write(self.source, self.asked.source)
         if self.asked.script is not None:
             write(self.script, self.asked.script)
-        self.is_preprocessed = self.has_directives()
+        self.is_preprocessed = self.asked.is_lowered or self.has_directives()
         if self.is_preprocessed:
             self.preprocess()
 
@@ -111,8 +113,10 @@ class Question:
         if self.is_shut and reads_bytes(source):
             raise Fault("of files the headers of include/ alone may be read here, and embed reads others")
         given = self.asked.name if os.path.isfile(os.path.join(self.caller.folder, self.asked.name)) else self.source
-        status, said = self.caller.call([f"{HERE}/preprocess", given, text], of="stderr")
+        status, said = self.caller.call([f"{HERE}/preprocess", given, text, *(["--lower"] * self.asked.is_lowered)], of="stderr")
         messages = bytes(said.bytes).decode("utf-8", "replace")
+        if self.asked.is_lowered and not status:
+            sys.stderr.write(messages)
         if status:
             raise Fault("the source could not be preprocessed\n" + (own_messages(messages, given) if self.is_shut else messages))
         with open(text, "rb") as file:
