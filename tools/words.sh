@@ -25,7 +25,7 @@ read_words() {
   [ -z "$leaks" ] || [ -z "$quiet" ] || [ -n "$slip" ] || slip='--leaks says words, and --quiet wants none'
   [ -z "$raw" ] || [ "${#lowering[@]}" = 0 ] || slip='--lower reads what was preprocessed, so it goes not with --raw'
   # (they stand behind all other options of preprocessing)
-  [ "${#lowering[@]}" = 0 ] || changes+=(--lower ${quiet:+--quiet} "${lowering[@]:1}")
+  [ "${#lowering[@]}" = 0 ] || { changes+=(--lower ${quiet:+--quiet} "${lowering[@]:1}") && export PV_LOWERED=yes; }
 }
 
 read_options() {
