@@ -3,9 +3,9 @@
 
 # The digits of the marks of the text, in `mark`; nothing where it has none.
 find_mark() {
-  mark=$(LC_ALL=C grep -aoE -m 1 '"\\033_[0-9a-f]{16}"' -- "$text" 2>/dev/null | head -n 1)
-  mark=${mark:6:16}
-  [ -z "$mark" ] || LC_ALL=C grep -qa '__without_marks(int __printed)' -- "$text" || mark=''
+  mark=$(LC_ALL=C grep -aoE -m 1 '\\033_[0-9a-f]{16}["12%]' -- "$text" 2>/dev/null | head -n 1)
+  mark=${mark:5:16}
+  [ -z "$mark" ] || LC_ALL=C grep -qa '__letter(' -- "$text" || mark=''
   # (who reads a pipe would take this for the end)
   [ -z "$errors" ] || [ -p "$errors" ] || : >"$errors" || exit 127
 }
