@@ -73,7 +73,8 @@ try_tools() {
   fi
   for name in page explore suite; do
     call "$name" --help
-    try "$name --help" "0 usage:" "$status ${out%% *}"
+    try "$name --help" 0 "$status"
+    try_holds "$name --help: its own" "$name" "${out%%$'\n'*}"
   done
   call --install "$work/again"
   try '--install of what was installed' '125 pvrun: what was installed is copied from its checkout: --install is for that one' "$status $err"

@@ -1,6 +1,8 @@
 """The self-test of tools/suite: lists that are run in parts and at once, what it adds to the program, what fails, and the forms of reports."""
+import glob
 import json
 import os
+import shlex
 import shutil
 import signal
 import subprocess
@@ -261,7 +263,9 @@ def try_proved(tried: Tried, tool: Tool) -> None:
     os.makedirs("checkout/.prove")
     write("checkout/crates.txt", b"pv_suite:\n")
     write("checkout/crates/pv_suite/src/main.rt", b"// one\n")
-    shutil.copy(tool.program, "checkout/crates/pv_suite/out/pv_suite")
+    # (a program that is tried before its proofs is known by its bytes)
+    write("checkout/crates/pv_suite/out/pv_suite", f"#!/bin/sh\nexec {shlex.quote(tool.program)} \"$@\"\n".encode())
+    os.chmod("checkout/crates/pv_suite/out/pv_suite", 0o755)
     write("list", ZERO)
     note = "cd checkout && . tools/sources.sh && sources pv_suite pv_suite >.prove/pv_suite.sources"
     change = "echo '// two' >checkout/crates/pv_suite/src/main.rt"
@@ -306,11 +310,18 @@ def try_signals(tried: Tried, tool: Tool) -> None:
     for number in (signal.SIGINT, signal.SIGTERM, signal.SIGHUP):
         words = [sys.executable, os.path.join(HERE, "suite"), "list", "--program", tool.program]
         process = subprocess.Popen(words, stdin=subprocess.DEVNULL, stdout=subprocess.PIPE, stderr=subprocess.PIPE, start_new_session=True)
-        time.sleep(1)
+        until = time.monotonic() + 30
+        while not children_of(process.pid) and time.monotonic() < until:
+            time.sleep(0.1)
         process.send_signal(number)
         out, err = process.communicate()
         tried.same(f"{number.name}: the status, and what is written", (128 + number, b"", b""), (process.returncode, out, err))
         tried.same(f"{number.name}: nothing is left", False, is_there(process.pid))
+
+
+def children_of(number: int) -> str:
+    """The processes that a process has begun."""
+    return "".join(read(path) for path in glob.glob(f"/proc/{number}/task/*/children"))
 
 
 def is_there(group: int) -> bool:

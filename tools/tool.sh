@@ -21,7 +21,7 @@ names_file() {
 }
 
 # Calls the tool NAME by the programs that are proved and built here, by those that were installed, or with --unproved by those before their
-# proofs. What is missing is proved first, but for help, and for a call that says nothing.
+# proofs. What is missing is proved first, but for help, for a call that says nothing, and for one that names programs itself.
 tool() {
   local name=$1 asked each where=()
   shift
@@ -32,7 +32,7 @@ tool() {
   programs_of "$name"
   other=${asked[0]}
   case " $* " in
-    '  ' | *' -h '* | *' --help '*) ;;
+    '  ' | *' -h '* | *' --help '* | *' --program'*) ;;
     *)
       names_file "$@" || is_ready "$other" || [ -n "$unproved" ] || { say 'no argument names a file that can be read; so nothing is proved or run' && exit 125; }
       for each in "${asked[@]}"; do find_beside "$each"; done
