@@ -63,4 +63,22 @@ static int fputc(int __character, FILE *__stream) {
   return (unsigned char)__character;
 }
 
+#ifdef __pv_lower
+/* The marks round what a list of arguments comes to are printed by calls of their own, of which the second is made last. */
+static int __begins(FILE *__stream) {
+  int __stream_is = __letter(__stream);
+  if (__stream_is == '2')
+    printf(__error_begins);
+  return __stream_is;
+}
+
+static int __ends(int __stream_is, int __printed) {
+  if (__stream_is == '2')
+    printf(__error_ends);
+  return __printed;
+}
+
+#define vfprintf(stream, format, list) __ends(__begins(stream), vprintf(format, list))
+#endif
+
 #endif

@@ -42,7 +42,9 @@ int snprintf(char *, size_t, const char *, ...);
 int vprintf(const char *, __builtin_va_list);
 int vsprintf(char *, const char *, __builtin_va_list);
 int vsnprintf(char *, size_t, const char *, __builtin_va_list);
+#ifndef __PV_WANTS_ERROR
 #define vfprintf(stream, format, list) (__must_be_stream(stream), vprintf(format, list))
+#endif
 #endif
 
 static void __must_be_stream(FILE *__stream) {

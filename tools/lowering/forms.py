@@ -28,6 +28,17 @@ def around(node):
         yield node
 
 
+def uses_of(text, names):
+    """Each place where a function of these names is named, and the call that it is the callee of, or None."""
+    for node in text.nodes:
+        declared = node.get("referencedDecl", {})
+        if node["kind"] == "DeclRefExpr" and declared["kind"] == "FunctionDecl" and declared["name"] in names:
+            inner, outer = node, node["up"]
+            while outer["kind"] in WRAPPERS:
+                inner, outer = outer, outer["up"]
+            yield node, outer if outer["kind"] == "CallExpr" and outer["inner"][0] is inner else None
+
+
 def writes(node):
     """Whether an expression has a side effect of its own: an assignment, ++ or --."""
     return any(it["kind"] == "CompoundAssignOperator" or it.get("opcode") in ("=", "++", "--") or
@@ -94,3 +105,11 @@ def unqualified(spelled):
     if "*" not in spelled:
         return re.sub(r"\b(const|volatile|restrict)\b ?", "", spelled).strip()
     return re.sub(r"\*\s*(const|volatile|restrict|\s)+$", "*", spelled)
+
+
+def listed(nodes):
+    """The pieces of an edit for arguments, each in its line."""
+    pieces = []
+    for it in nodes:
+        pieces += ([", "] if pieces else []) + [(it["b"], it["e"])]
+    return pieces

@@ -11,7 +11,7 @@ use); a const literal in a block whose values are no constants; types that the f
 """
 import re
 
-from lowering.forms import around, calls, declare, decays, is_constant, strip, within, writes
+from lowering.forms import around, calls, declare, decays, is_constant, listed, strip, within, writes
 from lowering.initializers import List, check as check_order, first_members
 from lowering.text import IDENTIFIER, Left
 
@@ -131,10 +131,7 @@ class Literal:
         body = "%s = %s%s%s; return %s;" % (declare(result, self.name), opened, "".join(handed.pieces), closed, self.name)
         head = "static %s(%s)" % (declare(result, self.name + "_make"), ", ".join(words) or "void")
         self.text.before(self.node, "%s { %s }" % (head, body))
-        pieces = [self.name + "_make("]
-        for index, it in enumerate(handed.parameters):
-            pieces += ([", "] if index else []) + [(it["b"], it["e"])]
-        return pieces + [")"]
+        return [self.name + "_make("] + listed(handed.parameters) + [")"]
 
     def unqualified(self):
         if "*" in self.spelled:

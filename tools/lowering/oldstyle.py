@@ -9,7 +9,7 @@ type _Bool.
 """
 import re
 
-from lowering.forms import body_of, declare, parameters_of, strip, unqualified
+from lowering.forms import body_of, declare, parameters_of, strip, unqualified, uses_of
 from lowering.text import Left
 
 NAME = "definitions of the old style"
@@ -39,13 +39,8 @@ def fits(text, given, parameter):
 
 
 def check_calls(text, name, parameters, is_old):
-    for node in text.nodes:
-        if node["kind"] != "DeclRefExpr" or node["referencedDecl"].get("name") != name or node["referencedDecl"]["kind"] != "FunctionDecl":
-            continue
-        inner, call = node, node["up"]
-        while call["kind"] in ("ImplicitCastExpr", "ParenExpr"):
-            inner, call = call, call["up"]
-        if call["kind"] != "CallExpr" or call["inner"][0] is not inner:
+    for node, call in uses_of(text, (name,)):
+        if not call:
             raise Left(node["b"], "the address of '%s' is taken" % name)
         given = call["inner"][1:]
         if len(given) != len(parameters):

@@ -14,7 +14,7 @@ told by the clause of that access (6.5.3.2p4 in place of 7.1.4p1), in its line a
 import os
 import re
 
-from lowering.forms import strip, unqualified
+from lowering.forms import listed, strip, unqualified
 from lowering.formats import KINDS, MOST, meant, pieces_of, quoted
 from lowering.text import File, Left
 
@@ -253,10 +253,7 @@ class Rewriter:
         if self.prelude.at is None:
             self.prelude.at = self.text.begin_of_top(node)
         self.text.before(node, written.written())
-        pieces = [written.function + "("]
-        for index, it in enumerate(given):
-            pieces += ([", "] if index else []) + [(it["b"], it["e"])]
-        self.text.edit(node["b"], node["e"], *pieces, ")")
+        self.text.edit(node["b"], node["e"], written.function + "(", *listed(given), ")")
 
 
 class Memory(Function):

@@ -5,7 +5,7 @@ standard makes a constraint.
 """
 import re
 
-from lowering.forms import around, body_of
+from lowering.forms import body_of, uses_of
 from lowering.text import File, Left
 
 
@@ -191,25 +191,20 @@ class Promises:
         size = tokens[index + 1][1]
         if depth != 1 or tokens[index - 1][1] != "[" or not re.fullmatch(r"[1-9]\d*", size):
             raise Left(at, "its size is no plain number")
-        for node in text.nodes:
-            if node["kind"] == "DeclRefExpr" and node["referencedDecl"].get("name") == function["name"] and \
-                    node["referencedDecl"]["kind"] == "FunctionDecl":
-                self.check_use(text, node, which, int(size))
+        for node, call in uses_of(text, (function["name"],)):
+            if not call or len(call["inner"]) <= which + 1:
+                raise Left(node["b"], "the function is called by a pointer")
+            self.check_argument(text, call["inner"][which + 1], int(size))
 
-    def check_use(self, text, node, which, size):
-        inner, call = node, next(around(node))
-        while call["kind"] in ("ImplicitCastExpr", "ParenExpr"):
-            inner, call = call, call["up"]
-        if call["kind"] != "CallExpr" or call["inner"][0] is not inner or len(call["inner"]) <= which + 1:
-            raise Left(node["b"], "the function is called by a pointer")
-        given = call["inner"][which + 1]
+    def check_argument(self, text, given, size):
+        at = given["b"]
         while given["kind"] in ("ImplicitCastExpr", "ParenExpr"):
             given = given["inner"][-1]
         array = re.search(r"\[(\d+)\]", text.type_of(given))
         while given["kind"] == "MemberExpr" and not given.get("isArrow"):
             given = given["inner"][0]
         if given["kind"] not in ("DeclRefExpr", "StringLiteral") or not array or int(array[1]) < size:
-            raise Left(call["b"], "the argument is no array that is known to be long enough")
+            raise Left(at, "the argument is no array that is known to be long enough")
 
 
 class LibraryValues:
@@ -227,15 +222,7 @@ class LibraryValues:
         "exit": ("void", "int"), "abort": ("void",)}
 
     def apply(self, text, notes):
-        uses = []
-        for node in text.nodes:
-            declared = node.get("referencedDecl", {})
-            if node["kind"] == "DeclRefExpr" and declared.get("kind") == "FunctionDecl" and declared.get("name") in self.FUNCTIONS:
-                inner, outer = node, node["up"]
-                while outer["kind"] in ("ImplicitCastExpr", "ParenExpr"):
-                    inner, outer = outer, outer["up"]
-                if not (outer["kind"] == "CallExpr" and outer["inner"][0] is inner):
-                    uses.append(node)
+        uses = [node for node, call in uses_of(text, self.FUNCTIONS) if not call]
         for name in sorted({it["referencedDecl"]["name"] for it in uses}):
             self.write(text, notes, name, [it for it in uses if it["referencedDecl"]["name"] == name])
 

@@ -13,14 +13,14 @@ no clause for it; a way out of the function without va_end is not told.
 import os
 import re
 
-from lowering.forms import around, body_of, declare, parameters_of, strip, unqualified
+from lowering.forms import around, body_of, declare, listed, parameters_of, strip, unqualified, uses_of
 from lowering.literals import spelling
 from lowering.printf import called, promoted
 from lowering.text import File, Left
 
 NAME = "functions with ..."
 KINDS = {"int": 1, "unsigned int": 2, "long": 3, "unsigned long": 4, "long long": 5, "unsigned long long": 6}
-PRINTING = {"vprintf": (), "vsprintf": (0,), "vsnprintf": (0, 1)}
+PRINTING = ("vprintf", "vsprintf", "vsnprintf")
 LOOPS = ("ForStmt", "WhileStmt", "DoStmt")
 MACROS = ("__builtin_va_start", "__builtin_va_end", "__builtin_va_copy")
 
@@ -56,12 +56,13 @@ class Unit:
     # ---- what is known to fit
 
     def check(self):
+        for node, call in uses_of(self.text, self.own):
+            if not call:
+                raise Left(node["b"], "the address of a function with ... is taken")
+            self.calls.append((call, node["referencedDecl"]["name"]))
         for node in self.text.nodes:
-            declared = node.get("referencedDecl", {})
             if node["kind"] == "FieldDecl" and is_list(self.text, node):
                 raise Left(node["b"], "a va_list within a structure")
-            if node["kind"] == "DeclRefExpr" and declared.get("kind") == "FunctionDecl" and declared.get("name") in self.own:
-                self.check_callee(node)
             if node["kind"] in ("VarDecl", "ParmVarDecl") and node.get("name") and is_list(self.text, node):
                 self.check_list(node)
             if node["kind"] == "FunctionDecl" and node.get("variadic") and node["b"] >= 0 and node["name"] not in self.own and \
@@ -69,14 +70,6 @@ class Unit:
                 raise Left(node["b"], "a function with ... that is not defined here")
         for name in self.own:
             self.check_types(name)
-
-    def check_callee(self, node):
-        inner, call = node, node["up"]
-        while call["kind"] in ("ImplicitCastExpr", "ParenExpr"):
-            inner, call = call, call["up"]
-        if call["kind"] != "CallExpr" or call["inner"][0] is not inner:
-            raise Left(node["b"], "the address of a function with ... is taken")
-        self.calls.append((call, node["referencedDecl"]["name"]))
 
     def check_list(self, variable):
         uses, handed, started = [], [], []
@@ -199,20 +192,17 @@ class Unit:
 
     def print(self, node, name):
         function = self.text.name(name)
-        given = [(it["b"], it["e"]) for it in node["inner"][1:]]
+        given = node["inner"][1:]
         written = self.file("list.c")
         written = re.sub(r"\bBAD\b", 'printf("%d");', written)
         written = re.sub(r"NEXT\((\w+)\)", r'if (given.at >= given.left || (given.all[given.at].kind + 1) / 2 != (\1 + 1) / 2) printf("%d");', written)
         written = re.sub(r"PUT\(letter\)", "{ if (out) { if (pass) printf(\"%c\", letter); } else if (n + 1 < size) { "
                          "for (i = 0; i < seen; i++) if (to + n == sources[i]) memcpy(to, to, 1); to[n] = letter; } n++; }", written)
         self.text.before(node, written.replace("NAME", function).replace("PV", self.prefix))
-        to = {"vprintf": "1, 0, 0, ", "vsprintf": "0, ", "vsnprintf": "0, "}[name]
-        pieces = [function + "(" + to]
-        for index, it in enumerate(given):
-            pieces += ([", "] if index else []) + [it]
-            if name == "vsprintf" and index == 0:
-                pieces.append(", 18446744073709551615u")
-        self.text.edit(node["b"], node["e"], *pieces, ")")
+        pieces = listed(given)
+        if name == "vsprintf":
+            pieces.insert(1, ", 18446744073709551615u")
+        self.text.edit(node["b"], node["e"], function + ("(1, 0, 0, " if name == "vprintf" else "(0, "), *pieces, ")")
 
     def call(self, call, name):
         given, made = self.given(call, name), self.text.name("given")
@@ -229,9 +219,7 @@ class Unit:
                          (slot, "f" if kind == 10 else "p", value, value))
         self.text.before(call, "static struct %s_list %s_make(%s) { struct %s_list %s; %s.at = 0; %s.left = %d; %s return %s; }" % (
             self.prefix, made, ", ".join(words) or "void", self.prefix, made, made, made, len(given), "".join(steps), made))
-        pieces = [made + "_make("]
-        for index, it in enumerate(given):
-            pieces += ([", "] if index else []) + [(it["b"], it["e"])]
+        pieces = [made + "_make("] + listed(given)
         if given:
             self.text.edit(given[0]["b"], given[-1]["e"], *pieces, ")")
         else:
