@@ -118,7 +118,7 @@ def try_readme(tests: Tests) -> None:
     """The output that docs/EXPLORE.md shows is a part of what is told."""
     section = text(f"{HERE}/../docs/EXPLORE.md").split("\n## What it shows\n")[1].split("\n## ")[0]
     block = "".join(line[4:] + "\n" for line in section.splitlines() if line.startswith("    "))
-    told = tests.call("tools/explore-programs/cached_by_address.c", cwd=f"{HERE}/..")
+    told = tests.call("cached_by_address.c", cwd=f"{HERE}/explore-programs")
     tests.holds("docs/EXPLORE.md", len(block) > 300 and block in told.out, told.out)
 
 

@@ -70,11 +70,11 @@ try_name() {
   cp "$work/unset.c" "$work/names/$name"
   printf '#define B\nint main(void) { return 0; }\nint f(void) { return g; }\n' >"$work/names/refused $name"
   try_call "the name '$shown'" 2 'indeterminate line=3 turn=3' run "$name"
-  try_holds "the name '$shown': words" "$shown:3: indeterminate: " "$err"
+  try_holds "the name '$shown': words" "$shown:3: error: indeterminate: " "$err"
   printf '#define A\n' >>"$name"
   try_call "the name '$shown' with a directive" 2 '' run "$name" --keep 'kept text' --report 'kept report'
   try "the name '$shown' with a directive: report" 'indeterminate line=3 turn=3' "$(cat 'kept report')"
-  try_holds "the name '$shown' with a directive: words" "$shown:3: indeterminate: " "$err"
+  try_holds "the name '$shown' with a directive: words" "$shown:3: error: indeterminate: " "$err"
   try_call "the name '$shown', refused" 8 'refused reason=constraint index=1' check "refused $name"
   try_holds "the name '$shown', refused: place" ':3:1: refused: constraint' "$err"
   try_holds "the name '$shown', refused: hint" "hint: refused $shown:3: this seems" "$err"
@@ -158,7 +158,7 @@ try_preprocessors() {
     try_call "$name" 0 $'hello\nexit status=3 turn=6' run "$work/hello.c"
     call run "$work/fault.c"
     try "$name: a fault" 1 "$status"
-    try_holds "$name: the place of a fault" "$work/fault.c:4: undefined: " "$err"
+    try_holds "$name: the place of a fault" "$work/fault.c:4: error: undefined: " "$err"
     try_call "$name: a pipe" 0 $'hello\nexit status=3 turn=6' run <(cat "$work/hello.c")
   done
   launcher=("${kept[@]}")
