@@ -57,7 +57,7 @@ end_beside() {
       . "$tools/meaning.sh"
       shown=$(find_place)
       [ "$text" = "$source" ] || shown=${shown/#"$text:"/"$source:"}
-      [ -z "$shown" ] || printf '%s\n' "$shown" >&2
+      tell_place "$shown"
       ;;
   esac
   [ "$1" -le 128 ] || tell_signal "$1"
