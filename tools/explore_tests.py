@@ -9,13 +9,14 @@ from typing import Optional
 
 from explore_places import Chooser, Ground, Journal, Script, least, lines_of, scripts_of, text_of
 from explore_runs import HERE, Fault, find_program
+from standing_tests import try_standing
 
 EXAMPLES = f"{HERE}/../examples"
 PROGRAMS = f"{HERE}/explore-programs"
 # Examples whose script leads to another verdict than the first run's.
 WITH_SCRIPTS = [
     "call_settles", "narrow_integer", "neighbours", "no_memory", "no_memory_unasked",
-    "placed_functions", "same_address", "two_candidates", "undecided",
+    "same_address", "two_candidates", "undecided",
 ]
 
 
@@ -255,12 +256,25 @@ def try_files(tests: Tests) -> None:
         told = tests.call("/dev/stdin", stdin=file)
         tests.holds("a file as standard input", told.status == 1, told.out + told.err)
     told = tests.call("/dev/stdin", stdin=None, input=source.encode())
-    tests.holds("a pipe", told.status == 1 and "/dev/stdin:19: undefined" in told.out, told.out + told.err)
+    tests.holds("a pipe", told.status == 1 and "/dev/stdin:19: error: undefined" in told.out, told.out + told.err)
     told = tests.call(tests.file("with_header.c", "#include <stdint.h>\nint x;\nint main(void) { return (int)(uintptr_t)&x == 0; }\n"))
     tests.holds("a header", told.status == 1 and "exit status=1\n" in told.out, told.out + told.err)
     with open("/dev/full", "wb") as full:
         ran = subprocess.run([*tests.words, f"{PROGRAMS}/arenas_joined.c"], stdout=full, stderr=subprocess.PIPE, encoding="utf-8")
         tests.holds("an output that can't be written", ran.returncode == 2 and ran.stderr.count("\n") == 1, ran.stderr)
+
+
+def try_proved(tests: Tests) -> None:
+    """Only what tools/prove made of the sources as they are is called the proved program."""
+    programs = {"pvrun": tests.pvrun, "pv_replay": f"{os.path.dirname(tests.pvrun)}/pv_replay"}
+    if not os.path.exists(programs["pv_replay"]):
+        programs["pv_replay"] = find_program(None, "pv_replay")
+
+    def told(words: list[str]) -> str:
+        return subprocess.run(words, stdin=subprocess.DEVNULL, stdout=subprocess.PIPE, encoding="utf-8").stdout
+
+    for what, is_so, got in try_standing(tests.room, programs, "explore", told):
+        tests.holds(what, is_so, got)
 
 
 def try_interrupt(tests: Tests) -> None:
@@ -284,7 +298,7 @@ def self_test(folder: Optional[str] = None) -> int:
         except Fault as fault:
             print(f"explore: {fault}", file=sys.stderr)
             return 2
-        for part in (try_places, try_lists, try_bounds, try_choice, try_words, try_refusals, try_files, try_interrupt, try_programs, try_readme):
+        for part in (try_places, try_lists, try_bounds, try_choice, try_words, try_refusals, try_files, try_proved, try_interrupt, try_programs, try_readme):
             part(tests)
     print(f"{tests.passed} passed, {tests.failed} failed")
     return int(tests.failed > 0)

@@ -1,4 +1,4 @@
-"""For tools/page: the proved programs over one source, in a folder of its own and within bounds, and what they answer."""
+"""For tools/page: the programs over one source, in a folder of its own and within bounds, and what they answer."""
 import os
 import re
 import sys
@@ -9,6 +9,7 @@ from explore_runs import HERE, LONGEST_FILE, SHAPES, Fault, find_program, write
 from page_calls import Caller, Kept, Late
 from page_journal import Journal
 from page_markers import files_of, line_in, own_messages, reads_bytes
+from standing import has_checks
 
 LONGEST_SOURCE = 1 << 20  # bytes of a source, and
 LONGEST_SCRIPT = 1 << 16  # of a script; the program refuses longer ones itself
@@ -61,7 +62,7 @@ class Answer:
 # ---- the programs over one source
 
 class Programs:
-    """The proved programs, in the folder or as they are built here. pvwhere says where a refusal is, and may be missing."""
+    """The programs in the folder, or as they are built here. pvwhere says where a refusal is, and may be missing."""
 
     def __init__(self, folder: Optional[str]):
         self.folder = folder
@@ -71,8 +72,7 @@ class Programs:
             self.pvwhere: Optional[str] = find_program(folder, "pvwhere")
         except Fault:
             self.pvwhere = None
-        with open(self.pvrun, "rb") as file:
-            self.has_checks = b"AddressSanitizer" in file.read()  # as tools/unproved compiles it, before its proofs
+        self.has_checks = has_checks(self.pvrun)
 
 
 class Question:
