@@ -54,10 +54,12 @@ try_unread() {
 }
 
 try_told() {
+  local word
   call --help
   try_holds '--help' 'usage: pvrun run FILE' "$out"
-  call -h
-  try_holds '-h' 'usage: pvrun run FILE' "$out"
+  for word in -h help 'run -h' 'check --help' 'step -h' 'replay --help'; do
+    try_call "$word" 0 "$(cat tools/help.txt)" $word
+  done
   call --version
   try_holds '--version' "Valumeiro $(cat VERSION) (" "$out"
 }
@@ -76,8 +78,8 @@ try_name() {
   try "the name '$shown' with a directive: report" 'indeterminate line=3 turn=3' "$(cat 'kept report')"
   try_holds "the name '$shown' with a directive: words" "$shown:3: error: indeterminate: " "$err"
   try_call "the name '$shown', refused" 8 'refused reason=constraint index=1' check "refused $name"
-  try_holds "the name '$shown', refused: place" ':3:1: refused: constraint' "$err"
-  try_holds "the name '$shown', refused: hint" "hint: refused $shown:3: this seems" "$err"
+  try_holds "the name '$shown', refused: place" "refused $shown:3:16: error: refused: constraint: this seems to be what is refused" "$err"
+  try_holds "the name '$shown', refused: the declaration" "refused $shown:3:1: note: the declaration that is refused begins here" "$err"
 }
 
 try_names() {
@@ -107,7 +109,7 @@ try_pipes() {
   try_call 'a pipe without directives' 2 'indeterminate line=3 turn=3' run <(cat "$work/unset.c")
   try_holds 'a pipe: words' '/dev/fd/' "$err"
   try_call 'a pipe that is refused' 8 'refused reason=constraint index=0' check <(echo 'int main(void) { return n; }')
-  try_holds 'a pipe that is refused: place' ':1:1: refused: constraint' "$err"
+  try_holds 'a pipe that is refused: place' ':1:1: note: the declaration that is refused begins here' "$err"
   try_call 'a script from a pipe' 2 'indeterminate line=3 turn=3' run "$work/unset.c" --script <(printf 'n 1 0x30000\n')
   try_holds 'a script from a pipe: words' '4 bytes at 0x30000' "$err"
   call run /dev/stdin <"$work/hello.c"
@@ -142,11 +144,39 @@ try_lacks() {
   try_holds 'no preprocessor: words' 'there is no preprocessor' "$err"
   try_call 'no Python: a refusal' 8 'refused reason=constraint index=0' check "$work/refused.c"
   try_holds 'no Python: a line of words' 'without python3' "$err"
+  try_holds 'no Python: the place' "$work/refused.c:1:1: error: refused: constraint" "$err"
   launcher=(env CPP=no_such_command "${kept[@]}")
   try_call 'no such preprocessor' 127 '' run "$work/hello.c"
   try_holds 'no such preprocessor: words' "CPP is 'no_such_command'" "$err"
   launcher=(env NO_COLOR=1 "${kept[@]}")
   launcher=("${kept[@]}")
+}
+
+# Commands that are not there, and limits of the shell: the launcher's own statuses, and why.
+try_edges() {
+  local kept=("${launcher[@]}") name
+  for name in awk head; do
+    only gcc && rm "$room/path/$name"
+    launcher=(env "PATH=$room/path" "${kept[@]}")
+    try_call "no $name" 127 '' run "$work/hello.c"
+    try_holds "no $name: words" "the command $name is not found" "$err"
+    try_call "no $name: no need" 0 'exit status=3 turn=3' run "$work/plain.c"
+  done
+  launcher=(env -i "${kept[@]}")
+  try_call 'no environment' 0 $'hello\nexit status=3 turn=6' run "$work/hello.c"
+  launcher=(bash -c 'ulimit -n 4; exec "$@"' bash "${kept[@]}")
+  try_call 'four files' 125 '' run "$work/plain.c"
+  try_holds 'four files: words' 'too few files may be open here' "$err"
+  launcher=("${kept[@]}")
+  # (what tests this writes no file either)
+  err=$(bash -c 'ulimit -f 0; "$@"; echo "status $?"' bash "${kept[@]}" run "$work/hello.c" 2>&1 | cat)
+  try 'no byte of a file' "pvrun: temporary files can't be written (in ${TMPDIR:-/tmp})"$'\nstatus 127' "$err"
+  try_call 'a text that can not be kept' 127 '' run "$work/hello.c" --keep /dev/full
+  try 'a text that can not be kept: words' "pvrun: '/dev/full' could not be written" "$err"
+  try_call 'two texts in one file' 127 '' run "$work/hello.c" --keep "$work/kept" --report "$work/./kept"
+  try 'two texts in one file: words' "pvrun: '$work/kept' would be written twice" "$err"
+  rm -f "$work/kept"
+  try_call 'two texts to one device' 0 hello run "$work/hello.c" --keep /dev/null --report /dev/null
 }
 
 # Each preprocessor that is there, alone.
@@ -217,6 +247,7 @@ try_all_words() {
   try_names
   try_pipes
   try_lacks
+  try_edges
   try_preprocessors
   try_colours
   try_journals

@@ -192,7 +192,9 @@ def self_test(program=BUILT):
     if not os.access(program, os.X_OK):
         print("spot: no program; run ./pvrun first", file=sys.stderr)
         return 1
-    tests = Tests(load_spot(), program)
+    spot = load_spot()
+    spot.MOST_SECONDS = 600  # (a machine may have much to do beside)
+    tests = Tests(spot, program)
     try_pieces(tests)
     try_all(tests)
     try_compilers(tests)
