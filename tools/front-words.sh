@@ -204,6 +204,22 @@ try_colours() {
   try 'NO_COLOR' no "$([[ $shown == *$'\033'* ]] && echo yes || echo no)"
 }
 
+# The places of faults and refusals are those of gcc's messages to the problem matcher $gcc of Visual Studio Code and to vim as it comes.
+try_editors() {
+  local matcher='^(.*):([0-9]+):([0-9]*):?[[:space:]]+(fatal[[:space:]]+)?(warning|error):[[:space:]]+(.*)$' mode name place row
+  for row in 'fault.c run 4:' 'unset.c run 3:' 'refused.c check 1:18' 'wants_m.c run 3:3'; do
+    read -r name mode place <<<"$row"
+    call "$mode" "$work/$name"
+    [[ ${err%%$'\n'*} =~ $matcher ]]
+    try "\$gcc: $name" "$work/$name:$place:error" "${BASH_REMATCH[1]}:${BASH_REMATCH[2]}:${BASH_REMATCH[3]}:${BASH_REMATCH[5]}"
+    command -v vim >/dev/null || continue
+    printf '%s\n' "$err" >"$work/said"
+    (cd "$work" && vim -u NONE -N -es -c 'cfile said' \
+      -c "call writefile(map(filter(getqflist(), 'v:val.valid'), 'fnamemodify(bufname(v:val.bufnr), \":t\") . \":\" . v:val.lnum'), 'places')" -c 'qa!' </dev/null >/dev/null 2>&1)
+    try "vim: $name" "$name:${place%%:*}" "$(head -n 1 "$work/places")"
+  done
+}
+
 # README begins with an ordinary file: the end of its text, its report and its words are those that are shown there.
 try_readme() {
   local file=$work/list.c line shown
@@ -241,6 +257,7 @@ try_journals() {
 
 try_all_words() {
   try_readme
+  try_editors
   try_slips
   try_unread
   try_told
