@@ -204,9 +204,10 @@ try_colours() {
   try 'NO_COLOR' no "$([[ $shown == *$'\033'* ]] && echo yes || echo no)"
 }
 
-# The places of faults and refusals are those of gcc's messages to the problem matcher $gcc of Visual Studio Code and to vim as it comes.
+# The places of faults and refusals are those of gcc's messages to the problem matcher $gcc of Visual Studio Code and to vim as it comes. (Its file is
+# the shortest one that fits, and no name here has a colon.)
 try_editors() {
-  local matcher='^(.*):([0-9]+):([0-9]*):?[[:space:]]+(fatal[[:space:]]+)?(warning|error):[[:space:]]+(.*)$' mode name place row
+  local matcher='^([^:]*):([0-9]+):([0-9]*):?[[:space:]]+(fatal[[:space:]]+)?(warning|error):[[:space:]]+(.*)$' mode name place row
   for row in 'fault.c run 4:' 'unset.c run 3:' 'refused.c check 1:18' 'wants_m.c run 3:3'; do
     read -r name mode place <<<"$row"
     call "$mode" "$work/$name"
