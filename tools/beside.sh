@@ -7,6 +7,7 @@ read_beside() {
   read_words run "${@:3}"
   [ $# -gt 2 ] || slip="$name wants a file"
   slip=${slip/%'no option of run'/"no option of $name"}
+  slip=${slip/'and run takes one'/"and $name takes one"}
   slip=${slip/#'run wants'/"$name wants"}
   slip=${slip/'pvrun run FILE'/"pvrun $name FILE"}
   [ -z "$quiet$report$sarif$errors" ] || slip="$name takes neither --quiet nor --report nor --sarif nor --stderr"

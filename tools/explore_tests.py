@@ -144,14 +144,14 @@ def try_places(tests: Tests) -> None:
     for reason, lines in {
         "allocation 1 is refused": "@heap 1 null\n",
         "allocation 2 and all behind it are refused": "".join(f"@heap {k} null\n" for k in range(2, 11)),
-        "allocation 1 lies right behind x": "x 1 0x2000c\n@heap 1 0x20010\n",
-        "allocation 2 lies right behind x": "x 1 0x2000c\n@heap 2 0x20010\n",
-        "c lies right behind allocation 2": "@heap 2 0x20000\nc 1 0x20010\n",
-        "allocation 2 lies right behind c": "c 1 0x2000d\n@heap 2 0x20010\n",
-        "x lies right behind allocation 1": "@heap 1 0x20000\nx 1 0x20005\n",
-        "x lies right behind c": "c 1 0x20005\nx 1 0x20008\n",
-        "c lies right behind x": "x 1 0x20000\nc 1 0x20004\n",
-        "c lies right behind allocation 1": None,
+        "allocation 1 lies right after x": "x 1 0x2000c\n@heap 1 0x20010\n",
+        "allocation 2 lies right after x": "x 1 0x2000c\n@heap 2 0x20010\n",
+        "c lies right after allocation 2": "@heap 2 0x20000\nc 1 0x20010\n",
+        "allocation 2 lies right after c": "c 1 0x2000d\n@heap 2 0x20010\n",
+        "x lies right after allocation 1": "@heap 1 0x20000\nx 1 0x20005\n",
+        "x lies right after c": "c 1 0x20005\nx 1 0x20008\n",
+        "c lies right after x": "x 1 0x20000\nc 1 0x20004\n",
+        "c lies right after allocation 1": None,
         "c lies where allocation 1 lay": "c 1 0x10020\n",
         "allocation 2 lies where allocation 1 lay": "@heap 1 0x20000\n@heap 2 0x20000\n",
         "allocation 1 lies as high as it can, below 2^47": "@heap 1 0x7ffffffffff0\n",
@@ -171,20 +171,20 @@ def try_lists(tests: Tests) -> None:
     journal = Journal(JOURNAL.replace("0x10000", "0x30000"))
     ground = Ground(journal, said)
     found = scripts_by_reason(ground)
-    tests.same("behind what was given", "x 1 0x30000\n@heap 9 null\nc 1 0x30004\n", found.get("c lies right behind x"))
-    tests.same("before what was given", "x 1 0x30000\n@heap 9 null\nc 1 0x2fffd\n", found.get("x lies right behind c"))
+    tests.same("behind what was given", "x 1 0x30000\n@heap 9 null\nc 1 0x30004\n", found.get("c lies right after x"))
+    tests.same("before what was given", "x 1 0x30000\n@heap 9 null\nc 1 0x2fffd\n", found.get("x lies right after c"))
     tests.same("what was given is not moved", None, found.get("x lies at 2^31"))
     script = Script("", {**said, ("c", 1): 0x40000}, "c lies elsewhere", ground)
     later = Journal(JOURNAL.replace("0x10000", "0x30000").replace("0x10060", "0x40000") + "create d#1 turn=9 base=0x10060 size=1\n")
     reasons = scripts_by_reason(Ground(later, script.lines, script)).keys()
     tests.holds("of another run its own instances", all("d " in reason or "d#" in reason or "d" == reason[-1] for reason in reasons), reasons)
-    tests.holds("what its script does", "c lies elsewhere; d lies right behind c" in reasons, reasons)
+    tests.holds("what its script does", "c lies elsewhere; d lies right after c" in reasons, reasons)
 
 
 def try_bounds(tests: Tests) -> None:
     """Places of a run with high ones, with scripts that can't be as long as they would be, and with one instance."""
     high = scripts_by_reason(Ground(Journal(JOURNAL.replace("0x10000", "0x80000000")), {("x", 1): 0x80000000}))
-    tests.same("beside a high place", "x 1 0x80000000\n@heap 2 0x20000\nc 1 0x20010\n", high.get("c lies right behind allocation 2"))
+    tests.same("beside a high place", "x 1 0x80000000\n@heap 2 0x20000\nc 1 0x20010\n", high.get("c lies right after allocation 2"))
     many = "".join(f"create @heap#{k} turn={k} base={hex(0x10000 + 32 * k)} size=4\n" for k in range(1, 5001)) + "events 5000\n"
     chooser = Chooser()
     scripts = chooser.choose(scripts_of(Ground(Journal(many), {}), 2001), 2000)

@@ -18,7 +18,8 @@ try_slips() {
   try_slip 'an empty name' 'the name of the file is empty' check ''
   try_slip 'an option before the file' 'the file comes first: pvrun run FILE -I' run -I headers "$file"
   try_slip 'no such option' "'--fast' is no option of run" run "$file" --fast
-  try_slip 'a word too many' "'b.c' is no option of check" check "$file" b.c
+  try_slip 'a second file' "'b.c' is a second file, and check takes one (a source can #include others)" check "$file" b.c
+  try_slip 'standard input by a dash' 'standard input is called /dev/stdin: pvrun run /dev/stdin' run -
   try_slip "an option of run's" "'--turns' is no option of layout" layout "$file" --turns 3
   try_slip 'no value' '--turns wants a value' run "$file" --turns
   try_slip 'an empty folder' '-I wants a value' run "$file" -I ''
@@ -37,12 +38,9 @@ try_slips() {
   try_slip 'a script without a name' "the name of the script's file is empty" run "$file" --script ''
   try_slip 'gen without a number' 'gen takes one number, from 1 to 8192 without a leading zero' gen 9000
   try_slip 'gen with an option' "gen takes no option '--raw'" gen 3 --raw
-  try_slip 'a word that can not be dropped' "'const' is no word that --drop takes away (restrict, volatile, attributes)" run "$file" --drop const
-  try_slip 'an empty name of a report' 'the name behind --report is empty' run "$file" --report ''
-  try_slip 'an empty name for standard error' 'the name behind --stderr is empty' run "$file" --stderr ''
-  try_slip "standard error of what doesn't run" "'--stderr' is no option of check" check "$file" --stderr x
-  try_slip 'no name of an input' '--input wants a value' run "$file" --input
-  try_slip 'an empty name of a SARIF' 'the name behind --sarif is empty' run "$file" --sarif ''
+  try_slip 'a word that can not be dropped' "'const' is no word that --drop takes away (restrict, volatile)" run "$file" --drop const
+  try_slip 'an empty name of a report' 'the name after --report is empty' run "$file" --report ''
+  try_slip 'an empty name of a SARIF' 'the name after --sarif is empty' run "$file" --sarif ''
 }
 
 try_unread() {
@@ -252,8 +250,8 @@ try_journals() {
   try_slip 'a journal, and nothing to do with it' 'replay writes or checks: pvrun replay write FILE, pvrun replay check FILE' replay "$journal"
   try_slip 'no file for a journal' 'replay write wants a file' replay write
   try_slip "an option of run's for a journal" "'--zap' is no option of replay write" replay write "$work/unset.c" --zap off
-  try_slip 'a word too many for a journal' "'b.c' is no option of replay write" replay write "$work/unset.c" b.c
-  try_slip 'two journals' 'replay check wants a file, and no word more' replay check "$journal" "$journal"
+  try_slip 'a second file for a journal' "'b.c' is a second file, and replay write takes one (a source can #include others)" replay write "$work/unset.c" b.c
+  try_slip 'two journals' 'replay check wants one file, and no other argument' replay check "$journal" "$journal"
 }
 
 try_all_words() {

@@ -37,7 +37,7 @@ tell_meaning() {
   case $mode$status in
     run[1-57] | settle[1-57]) [ -n "$sided" ] || attend "$tools/explain-fault" $fresh "$program" "$text" "$source" "$status" ${again[@]+"${again[@]}"} ;;
     *8) show_place ;;
-    *10) say "hint: a word isn't UTF-8" ;;
+    *10) say "hint: an argument isn't UTF-8" ;;
     *11) say "hint: '$source' could not be read" ;;
     *14) say 'hint: the run made a pair for which --sides has no letter' ;;
   esac

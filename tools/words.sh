@@ -11,6 +11,8 @@ read_words() {
         slip="$mode wants a file"
       elif [ -z "$source" ]; then
         slip='the name of the file is empty'
+      elif [ "$source" = - ] && [ ! -e - ]; then
+        slip="standard input is called /dev/stdin: pvrun $mode /dev/stdin"
       elif [[ $source == -* ]] && [ ! -e "$source" ]; then
         slip="the file comes first: pvrun $mode FILE $source"
       fi
@@ -46,7 +48,8 @@ read_options() {
       *-[IDU]?*) changes+=("$1") && shift && continue ;;
       run--script | run--turns | run--zap | run--watch | run--sarif | run--stderr | settle--stderr) ;;
       settle--script | settle--turns | settle--zap | settle--sides) ;;
-      *) slip="'$1' is no option of $mode" ;;
+      "$mode"-*) slip="'$1' is no option of $mode" ;;
+      *) slip="'$1' is a second file, and $mode takes one (a source can #include others)" ;;
     esac
     if [ -z "$slip" ] && [ $# -lt 2 ]; then slip="$1 wants a value"; fi
     [ -n "$slip" ] || read_value "$1" "$2"
@@ -67,7 +70,7 @@ read_value() {
     *) read_run_value "$1" "$2" && handed+=("$1" "$2") ;;
   esac
   case $1 in
-    --keep | --report | --sarif | --stderr | --input) [ -n "$2" ] || slip="the name behind $1 is empty" ;;
+    --keep | --report | --sarif) [ -n "$2" ] || slip="the name after $1 is empty" ;;
     --script | --turns | --zap) again+=("$1" "$2") ;;
     --sides) sided=yes ;;
   esac
