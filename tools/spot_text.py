@@ -136,7 +136,7 @@ class Place(NamedTuple):
         return f"{self.file}:{self.line}:{self.column}"
 
 
-def place_of(source: bytes, name: str, at: int) -> Place:
+def full_place(source: bytes, name: str, at: int) -> Place:
     line, file = 1, shown(os.fsencode(name))
     lines = source[:at].split(b"\n")
     for text in lines[:-1]:
@@ -146,6 +146,12 @@ def place_of(source: bytes, name: str, at: int) -> Place:
         else:
             line += 1
     return Place(file, line, len(lines[-1]) + 1)
+
+
+def place_of(source: bytes, name: str, at: int) -> str:
+    """File and line alone."""
+    place = full_place(source, name, at)
+    return f"{place.file}:{place.line}"
 
 
 def line_with_mark(source: bytes, at: int) -> list[str]:
