@@ -159,6 +159,8 @@ try_edges() {
     try_call "no $name" 127 '' run "$work/hello.c"
     try_holds "no $name: words" "the command $name is not found" "$err"
     try_call "no $name: no need" 0 'exit status=3 turn=3' run "$work/plain.c"
+    try_call "no $name: a fault" 2 'indeterminate line=3 turn=3' run "$work/unset.c"
+    [ "$name" = head ] || try "no $name: words of a fault" 'pvrun: hint: without awk nothing is said in words' "$err"
   done
   launcher=(env -i "${kept[@]}")
   try_call 'no environment' 0 $'hello\nexit status=3 turn=6' run "$work/hello.c"

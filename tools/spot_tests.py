@@ -59,7 +59,7 @@ PIECES = [
     (b"int printf(const char *);\nint main(void) { return 0; }\n", ["its type is fixed: int printf(const char *, ...);"]),
     (b"typedef struct n n;\nstruct n { n *next; };\ntypedef struct n n;\nint main(void) { return 0; }\n", ["a.c:3:1: error: ", "the typedef 'n' stands once"]),
     (b"typedef struct nope t[0];\nint main(void) { return 0; }\n", ["a.c:1:1: error: refused: constraint: this seems to be what is refused"]),
-    ("int größe = 1;\nint main(void) { return größe; }\n".encode(), ["a.c:1:5: error: refused: byte: 'größe': names have the letters, digits and _ of ASCII alone"]),
+    ("int größe = 1;\nint main(void) { return größe; }\n".encode(), ["a.c:1:7: error: refused: byte: 'größe': names have the letters, digits and _ of ASCII alone"]),
     (b"int gr\\U000000f6e;\nint main(void) { return 0; }\n", ["'gr\u00f6e': names have the letters"]),
     (b'int main(void) { return L"a"[0]; }\n', ["a.c:1:25: error: refused: profile: wide and Unicode literals"]),
     (b"int main(void) { return 099; }\n", ["'099' is no constant"]),
