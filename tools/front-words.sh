@@ -76,7 +76,7 @@ try_name() {
   try "the name '$shown' with a directive: report" 'indeterminate line=3 turn=3' "$(cat 'kept report')"
   try_holds "the name '$shown' with a directive: words" "$shown:3: error: indeterminate: " "$err"
   try_call "the name '$shown', refused" 8 'refused reason=constraint index=1' check "refused $name"
-  try_holds "the name '$shown', refused: place" "refused $shown:3:16: error: refused: constraint: this seems to be what is refused" "$err"
+  try_holds "the name '$shown', refused: place" "refused $shown:3:15: error: refused: constraint: this seems to be what is refused" "$err"
   try_holds "the name '$shown', refused: the declaration" "refused $shown:3:1: note: the declaration that is refused begins here" "$err"
 }
 
@@ -199,7 +199,7 @@ try_colours() {
   local shown
   command -v script >/dev/null || return
   shown=$(NO_COLOR='' script -qec "'${launcher[0]}' run '$work/unset.c'" /dev/null)
-  try_holds 'colours on a terminal' $'\033[1;31mindeterminate:\033[0m' "$shown"
+  try_holds 'colours on a terminal' $'\033[1;31merror:\033[0m indeterminate:' "$shown"
   shown=$(NO_COLOR=1 script -qec "'${launcher[0]}' run '$work/unset.c'" /dev/null)
   try 'NO_COLOR' no "$([[ $shown == *$'\033'* ]] && echo yes || echo no)"
 }
