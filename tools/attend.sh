@@ -1,5 +1,6 @@
 # For ./pvrun, tools/preprocess and tools/explain-fault: commands that end with the shell that began them, and what is said of a program that a
 # signal ended. A shell that waits for a command hears of a signal only when that command has ended, so what may take long is a job here.
+# shellcheck shell=bash disable=SC2064,SC2154
 
 # Runs a command with this shell's standard input. Its status is the command's, and 128 + N where signal N ended that.
 #

@@ -1,4 +1,5 @@
 # For ./pvrun: the programs beside pvrun that read a source as it does, pv_replay and pv_step: `other` is the name of the one that is asked for.
+# shellcheck shell=bash disable=SC1091,SC2154
 
 # The words behind `MODE FILE`, as those of a run; sets what the file is taken from, and `handed` to the program's own options. Those of a run that
 # stand behind are none here.

@@ -1,4 +1,5 @@
 # For ./pvrun: the files that it reads and writes.
+# shellcheck shell=bash disable=SC2034,SC2154
 
 # The folder for files of this call, in `held`.
 hold() {

@@ -1,4 +1,5 @@
 # For tools/front: what programs are told as they begin, programs that a signal ends, launchers that one ends, and the run turn by turn.
+# shellcheck shell=bash disable=SC2016,SC2086,SC2154
 
 # The launcher over something else in the place of pvrun.
 instead() {

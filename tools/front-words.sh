@@ -1,4 +1,5 @@
 # For tools/front: words, names of every kind, pipes, and machines that lack something.
+# shellcheck shell=bash disable=SC2002,SC2016,SC2086,SC2154
 
 # ---- words that are none
 

@@ -1,4 +1,5 @@
 # For tools/explain-fault: a default place that is taken by an instance of the script.
+# shellcheck shell=bash disable=SC2154
 
 # What the lines of the script that name an address speak of: `NAME K`, a line each.
 note_places() { LC_ALL=C sed -nE 's/^([@A-Za-z_][A-Za-z_0-9]*) ([0-9]+) 0x.*/\1 \2/p' "$1"; }

@@ -1,4 +1,5 @@
 # For ./pvrun: reads the words that it is called with.
+# shellcheck shell=bash disable=SC2034
 
 # Sets mode, source and what the options say; the first word that is none is told in `slip`. `handed` are the program's own options (the name of
 # the script's file is that numbered `script`), `again` those of them that a second run needs (which can't be made where there are sides:
