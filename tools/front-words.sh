@@ -20,7 +20,8 @@ try_slips() {
   try_slip 'an option before the file' 'the file comes first: pvrun run FILE -I' run -I headers "$file"
   try_slip 'no such option' "'--fast' is no option of run" run "$file" --fast
   try_slip 'a second file' "'b.c' is a second file, and check takes one (a source can #include others)" check "$file" b.c
-  try_slip 'standard input by a dash' 'standard input is called /dev/stdin: pvrun run /dev/stdin' run -
+  try_call 'standard input by a dash' 11 'fault read' run -
+  try 'standard input by a dash: hint' 'pvrun: hint: standard input is called /dev/stdin: pvrun run /dev/stdin' "$err"
   try_slip "an option of run's" "'--turns' is no option of layout" layout "$file" --turns 3
   try_slip 'no value' '--turns wants a value' run "$file" --turns
   try_slip 'an empty folder' '-I wants a value' run "$file" -I ''
