@@ -68,6 +68,7 @@ take_files() {
     attend "$tools/preprocess" "$given" "$held/text.i" --marks ${quiet:+--quiet} ${input:+--input "$input"} ${changes[@]+"${changes[@]}"} <"$text" || exit 127
     text=$held/text.i fresh=--fresh
   fi
+  [ -z "$raw" ] || [ -z "$input" ] || [ -n "$quiet" ] || say "note: --raw never preprocesses, so '$input' is not read"
   [ -z "$keep" ] || attend cat -- "$text" 2>/dev/null >"$keep" || { say "'$keep' could not be written" && exit 127; }
 }
 
@@ -89,8 +90,8 @@ take_script() {
 
 # A file that is written is none of those that are read, and can be written: looked at before a run, and before a proof.
 guard_files() {
-  local name others=("$keep" "$report" "$sarif")
-  for name in "$keep" "$report" "$sarif"; do
+  local name others=("$keep" "$report" "$sarif" "$errors")
+  for name in "$keep" "$report" "$sarif" "$errors"; do
     others=("${others[@]:1}")
     [ -n "$name" ] || continue
     if [ "$name" -ef "$source" ] || { [ -n "$input" ] && [ "$name" -ef "$input" ]; } || { [ -n "$script" ] && [ "$name" -ef "${handed[script]}" ]; }; then

@@ -40,8 +40,11 @@ try_slips() {
   try_slip 'a script without a name' "the name of the script's file is empty" run "$file" --script ''
   try_slip 'gen without a number' 'gen takes one number, from 1 to 8192 without a leading zero' gen 9000
   try_slip 'gen with an option' "gen takes no option '--raw'" gen 3 --raw
-  try_slip 'a word that can not be dropped' "'const' is no word that --drop takes away (restrict, volatile)" run "$file" --drop const
+  try_slip 'a word that can not be dropped' "'const' is no word that --drop takes away (restrict, volatile, attributes)" run "$file" --drop const
   try_slip 'an empty name of a report' 'the name after --report is empty' run "$file" --report ''
+  try_slip 'an empty name for standard error' 'the name after --stderr is empty' run "$file" --stderr ''
+  try_slip "standard error of what doesn't run" "'--stderr' is no option of check" check "$file" --stderr x
+  try_slip 'no name of an input' '--input wants a value' run "$file" --input
   try_slip 'an empty name of a SARIF' 'the name after --sarif is empty' run "$file" --sarif ''
 }
 

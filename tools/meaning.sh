@@ -9,14 +9,14 @@ show_place() {
   case ${shown%%$'\n'*} in
     *'refused: size' | *'refused: main') tell_place "$shown" && return ;;
   esac
-  # (attributes and pragmas that mean something stand there still)
-  NAME=$source NOTES='' DROP='' AWAY='' TELL=yes awk -f "$tools/extensions.awk" "$tools/extensions.txt" "$text" >&2
   if command -v python3 >/dev/null; then
     attend python3 "$tools/spot" "$program" "$text" "$source" "$shown" >&2 || tell_place "$shown"
   else
     tell_place "$shown"
     say 'hint: without python3 the statement is not looked for'
   fi
+  # (attributes and pragmas that mean something stand there still)
+  NAME=$source NOTES='' DROP='' AWAY='' TELL=yes awk -f "$tools/extensions.awk" "$tools/extensions.txt" "$text" >&2
 }
 
 # What pvwhere says, as a compiler's message.

@@ -1,4 +1,5 @@
 """For tools/spot: what the language leaves out that programs have, by the look of what is refused."""
+import os
 import re
 from collections import Counter
 from typing import Optional
@@ -67,28 +68,46 @@ LIBRARY = {
 
 # Functions of C17, and some of POSIX, that neither the language nor the headers have.
 NOT_THERE = [
-    ("getchar getc fgetc gets fgets scanf fscanf sscanf vscanf vfscanf vsscanf ungetc fread read", "there is no input"),
-    ("fopen freopen fclose tmpfile tmpnam remove rename fseek ftell rewind fgetpos fsetpos setvbuf setbuf feof ferror clearerr perror",
-     "there are no files, but for the one output"),
-    ("sprintf snprintf vprintf vfprintf vsprintf vsnprintf asprintf", "of the functions that write by a format the language has printf alone"),
-    ("time clock difftime mktime localtime gmtime strftime asctime ctime timespec_get sleep usleep", "there is no time"),
+    ("gets sscanf vscanf vfscanf vsscanf read", "of the functions that read <stdio.h> has getchar, fgets, scanf and their like"),
+    ("fopen freopen fclose tmpfile tmpnam remove rename fseek ftell rewind fgetpos fsetpos", "there are no files beside the three streams"),
+    ("sprintf snprintf vprintf vfprintf vsprintf vsnprintf asprintf", "of the functions that write by a format there are printf and fprintf"),
+    ("difftime strftime asctime ctime timespec_get sleep usleep", "of <time.h> there is what can be had without a clock"),
     ("sin cos tan sqrt pow exp log floor ceil fabs fmod atof strtod strtof strtold", "there are no floating-point numbers"),
-    ("signal raise setjmp longjmp system atexit at_quick_exit thrd_create mtx_lock pthread_create fork", "there are no signals, jumps, threads or other programs"),
-    ("strerror strdup strndup strcasecmp strsep strtok_r getline bcmp bzero alloca", "the headers do not have it"),
+    ("setjmp longjmp system atexit at_quick_exit thrd_create mtx_lock pthread_create fork", "there are no jumps, threads or other programs"),
+    ("strdup strndup strsep strtok_r getline alloca", "it is not of C17"),
 ]
+
+# What the launcher says itself of attributes, assembly and pragmas that mean something.
+TOLD_ELSEWHERE = re.compile(rb"\b(?:__attribute(?:__)?|__thread|_Pragma)\b|\b(?:asm|__asm(?:__)?)\b\s*(?:\(\s*\"|volatile|goto)")
 
 
 def sentence_of(piece: bytes, is_inside: bool) -> str:
     """What the table says of a piece that is refused, or nothing."""
+    if TOLD_ELSEWHERE.search(piece):
+        return ""
     return next((sentence for pattern, sentence in (INSIDE if is_inside else OUTSIDE) if re.search(pattern, piece, re.S)), "")
 
 
 def sentence_of_call(piece: bytes, source: bytes) -> str:
     """What is said of a function that a piece calls and the source doesn't declare."""
-    for names, why in NOT_THERE:
-        for name in names.split():
-            if re.search(rb"\b%s\s*\(" % name.encode(), piece) and not declares(source, name.encode()):
-                return f"'{name}' is declared nowhere: {why}"
+    for name in re.findall(rb"\b([A-Za-z_]\w*)\s*\(", piece):
+        if declares(source, name):
+            continue
+        why = next((why for names, why in NOT_THERE if name.decode() in names.split()), "")
+        header = "" if why else header_of(name)
+        if why or header:
+            return f"'{name.decode()}' is declared nowhere: {why or f'<{header}> has it'}"
+    return ""
+
+
+def header_of(name: bytes) -> str:
+    """The header that has a function of this name, or nothing. What stands in files of the headers' own is of <stdio.h>."""
+    headers = os.path.join(os.path.dirname(os.path.dirname(os.path.realpath(__file__))), "include")
+    for header in sorted(os.listdir(headers)) if os.path.isdir(headers) else []:
+        if header.endswith(".h"):
+            with open(f"{headers}/{header}", "rb") as file:
+                if re.search(rb"^(?!\s|/|#\s*if)[^\n]*\b%s\(" % name, file.read(), re.M):
+                    return "stdio.h" if header.startswith("pv_") else header
     return ""
 
 

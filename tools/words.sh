@@ -71,7 +71,7 @@ read_value() {
     *) read_run_value "$1" "$2" && handed+=("$1" "$2") ;;
   esac
   case $1 in
-    --keep | --report | --sarif) [ -n "$2" ] || slip="the name after $1 is empty" ;;
+    --keep | --report | --sarif | --stderr | --input) [ -n "$2" ] || slip="the name after $1 is empty" ;;
     --script | --turns | --zap) again+=("$1" "$2") ;;
     --sides) sided=yes ;;
   esac
