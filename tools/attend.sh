@@ -1,5 +1,6 @@
 # For ./pvrun, tools/preprocess and tools/explain-fault: commands that end with the shell that began them, and what is said of a program that a
 # signal ended. A shell that waits for a command hears of a signal only when that command has ended, so what may take long is a job here.
+# shellcheck shell=bash disable=SC2064,SC2154
 
 # Runs a command with this shell's standard input. Its status is the command's, and 128 + N where signal N ended that.
 #
@@ -67,6 +68,15 @@ give_trial_stack() {
     ulimit -S -s "$wanted" 2>/dev/null || ulimit -S -s "$(ulimit -H -s)" 2>/dev/null || :
 }
 
+# Whether what this shell called has taken the time that it may, by its hard limit: the system ends it by KILL then.
+has_passed() {
+  local most user system
+  most=$(ulimit -H -t)
+  [ "$most" != unlimited ] && hold && times >"$held/times" || return
+  { read -r _ _ && read -r user system; } <"$held/times"
+  [ $((${user%%m*} * 60 + $(cut -d. -f1 <<<"${user#*m}") + ${system%%m*} * 60 + $(cut -d. -f1 <<<"${system#*m}") + 1)) -ge "$most" ]
+}
+
 # Says which signal ended the program, by its status, and what that comes from where it is known.
 tell_signal() {
   local name stack why=''
@@ -77,7 +87,7 @@ tell_signal() {
       [ "$stack" = unlimited ] || [ "$stack" -ge "$stack_enough" ] ||
         why=": its stack was full, since 'ulimit -s' is $stack kilobytes here, and $stack_enough are enough"
       ;;
-    KILL) why=', as a machine does that has no memory left' ;;
+    KILL) if has_passed; then why=": the time that 'ulimit -t' gives had passed"; else why=', as a machine does that has no memory left'; fi ;;
     XCPU) why=": the time that 'ulimit -t' gives had passed" ;;
   esac
   say "the program was ended by the signal $name$why; so there is no report"

@@ -1,4 +1,5 @@
 # For ./pvrun: the programs beside pvrun that read a source as it does, pv_replay and pv_step: `other` is the name of the one that is asked for.
+# shellcheck shell=bash disable=SC1091,SC2154
 
 # The words behind `MODE FILE`, as those of a run; sets what the file is taken from, and `handed` to the program's own options. Those of a run that
 # stand behind are none here.
@@ -7,6 +8,7 @@ read_beside() {
   read_words run "${@:3}"
   [ $# -gt 2 ] || slip="$name wants a file"
   slip=${slip/%'no option of run'/"no option of $name"}
+  slip=${slip/'and run takes one'/"and $name takes one"}
   slip=${slip/#'run wants'/"$name wants"}
   slip=${slip/'pvrun run FILE'/"pvrun $name FILE"}
   [ -z "$quiet$report$sarif$errors" ] || slip="$name takes neither --quiet nor --report nor --sarif nor --stderr"
@@ -57,7 +59,7 @@ end_beside() {
       . "$tools/meaning.sh"
       shown=$(find_place)
       [ "$text" = "$source" ] || shown=${shown/#"$text:"/"$source:"}
-      [ -z "$shown" ] || printf '%s\n' "$shown" >&2
+      tell_place "$shown"
       ;;
   esac
   [ "$1" -le 128 ] || tell_signal "$1"

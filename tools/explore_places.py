@@ -195,7 +195,7 @@ def refused_from(ground: Ground, _most: int) -> Told:
 
 
 def side_by_side(ground: Ground, first: Instance, second: Instance) -> Lines:
-    """Lines that put the second right behind the first; none where the script says already where both lie."""
+    """Lines that put the second right after the first; none where the script says already where both lie."""
     if first.key in ground.said and second.key in ground.said:
         return {}
     if first.key in ground.said:
@@ -209,10 +209,10 @@ def side_by_side(ground: Ground, first: Instance, second: Instance) -> Lines:
 
 
 def neighbours(ground: Ground, most: int) -> Told:
-    """Each ordered pair of instances that live at one time, the second right behind the first."""
+    """Each ordered pair of instances that live at one time, the second right after the first."""
     for one, other in pairs(ground, True, most):
         for first, second in ((one, other), (other, one)):
-            yield side_by_side(ground, first, second), f"{called(second.key)} lies right behind {called(first.key)}"
+            yield side_by_side(ground, first, second), f"{called(second.key)} lies right after {called(first.key)}"
 
 
 def reused(ground: Ground, most: int) -> Told:

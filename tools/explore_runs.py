@@ -114,7 +114,7 @@ def take_source(name: str, room: str, is_lowered: bool = False) -> Source:
 
 
 def find_program(folder: Optional[str], name: str) -> str:
-    """The program in the folder, or the one that is proved and built here."""
+    """The program in the folder, or the one that is built here."""
     program = os.path.abspath(os.path.join(folder or f"{HERE}/../crates/{name}/out", name))
     if not os.path.isfile(program) or not os.access(program, os.X_OK):
         raise Fault(f"there is no program {shown_path(program)}" + ("" if folder else f": tools/prove {name} makes it"))

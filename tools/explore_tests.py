@@ -9,13 +9,14 @@ from typing import Optional
 
 from explore_places import Chooser, Ground, Journal, Script, least, lines_of, scripts_of, text_of
 from explore_runs import HERE, Fault, find_program
+from standing_tests import try_standing
 
 EXAMPLES = f"{HERE}/../examples"
 PROGRAMS = f"{HERE}/explore-programs"
 # Examples whose script leads to another verdict than the first run's.
 WITH_SCRIPTS = [
     "call_settles", "narrow_integer", "neighbours", "no_memory", "no_memory_unasked",
-    "placed_functions", "same_address", "two_candidates", "undecided",
+    "same_address", "two_candidates", "undecided",
 ]
 
 
@@ -118,7 +119,7 @@ def try_readme(tests: Tests) -> None:
     """The output that docs/EXPLORE.md shows is a part of what is told."""
     section = text(f"{HERE}/../docs/EXPLORE.md").split("\n## What it shows\n")[1].split("\n## ")[0]
     block = "".join(line[4:] + "\n" for line in section.splitlines() if line.startswith("    "))
-    told = tests.call("tools/explore-programs/cached_by_address.c", cwd=f"{HERE}/..")
+    told = tests.call("cached_by_address.c", cwd=f"{HERE}/explore-programs")
     tests.holds("docs/EXPLORE.md", len(block) > 300 and block in told.out, told.out)
 
 
@@ -143,14 +144,14 @@ def try_places(tests: Tests) -> None:
     for reason, lines in {
         "allocation 1 is refused": "@heap 1 null\n",
         "allocation 2 and all behind it are refused": "".join(f"@heap {k} null\n" for k in range(2, 11)),
-        "allocation 1 lies right behind x": "x 1 0x2000c\n@heap 1 0x20010\n",
-        "allocation 2 lies right behind x": "x 1 0x2000c\n@heap 2 0x20010\n",
-        "c lies right behind allocation 2": "@heap 2 0x20000\nc 1 0x20010\n",
-        "allocation 2 lies right behind c": "c 1 0x2000d\n@heap 2 0x20010\n",
-        "x lies right behind allocation 1": "@heap 1 0x20000\nx 1 0x20005\n",
-        "x lies right behind c": "c 1 0x20005\nx 1 0x20008\n",
-        "c lies right behind x": "x 1 0x20000\nc 1 0x20004\n",
-        "c lies right behind allocation 1": None,
+        "allocation 1 lies right after x": "x 1 0x2000c\n@heap 1 0x20010\n",
+        "allocation 2 lies right after x": "x 1 0x2000c\n@heap 2 0x20010\n",
+        "c lies right after allocation 2": "@heap 2 0x20000\nc 1 0x20010\n",
+        "allocation 2 lies right after c": "c 1 0x2000d\n@heap 2 0x20010\n",
+        "x lies right after allocation 1": "@heap 1 0x20000\nx 1 0x20005\n",
+        "x lies right after c": "c 1 0x20005\nx 1 0x20008\n",
+        "c lies right after x": "x 1 0x20000\nc 1 0x20004\n",
+        "c lies right after allocation 1": None,
         "c lies where allocation 1 lay": "c 1 0x10020\n",
         "allocation 2 lies where allocation 1 lay": "@heap 1 0x20000\n@heap 2 0x20000\n",
         "allocation 1 lies as high as it can, below 2^47": "@heap 1 0x7ffffffffff0\n",
@@ -170,20 +171,20 @@ def try_lists(tests: Tests) -> None:
     journal = Journal(JOURNAL.replace("0x10000", "0x30000"))
     ground = Ground(journal, said)
     found = scripts_by_reason(ground)
-    tests.same("behind what was given", "x 1 0x30000\n@heap 9 null\nc 1 0x30004\n", found.get("c lies right behind x"))
-    tests.same("before what was given", "x 1 0x30000\n@heap 9 null\nc 1 0x2fffd\n", found.get("x lies right behind c"))
+    tests.same("behind what was given", "x 1 0x30000\n@heap 9 null\nc 1 0x30004\n", found.get("c lies right after x"))
+    tests.same("before what was given", "x 1 0x30000\n@heap 9 null\nc 1 0x2fffd\n", found.get("x lies right after c"))
     tests.same("what was given is not moved", None, found.get("x lies at 2^31"))
     script = Script("", {**said, ("c", 1): 0x40000}, "c lies elsewhere", ground)
     later = Journal(JOURNAL.replace("0x10000", "0x30000").replace("0x10060", "0x40000") + "create d#1 turn=9 base=0x10060 size=1\n")
     reasons = scripts_by_reason(Ground(later, script.lines, script)).keys()
     tests.holds("of another run its own instances", all("d " in reason or "d#" in reason or "d" == reason[-1] for reason in reasons), reasons)
-    tests.holds("what its script does", "c lies elsewhere; d lies right behind c" in reasons, reasons)
+    tests.holds("what its script does", "c lies elsewhere; d lies right after c" in reasons, reasons)
 
 
 def try_bounds(tests: Tests) -> None:
     """Places of a run with high ones, with scripts that can't be as long as they would be, and with one instance."""
     high = scripts_by_reason(Ground(Journal(JOURNAL.replace("0x10000", "0x80000000")), {("x", 1): 0x80000000}))
-    tests.same("beside a high place", "x 1 0x80000000\n@heap 2 0x20000\nc 1 0x20010\n", high.get("c lies right behind allocation 2"))
+    tests.same("beside a high place", "x 1 0x80000000\n@heap 2 0x20000\nc 1 0x20010\n", high.get("c lies right after allocation 2"))
     many = "".join(f"create @heap#{k} turn={k} base={hex(0x10000 + 32 * k)} size=4\n" for k in range(1, 5001)) + "events 5000\n"
     chooser = Chooser()
     scripts = chooser.choose(scripts_of(Ground(Journal(many), {}), 2001), 2000)
@@ -255,12 +256,25 @@ def try_files(tests: Tests) -> None:
         told = tests.call("/dev/stdin", stdin=file)
         tests.holds("a file as standard input", told.status == 1, told.out + told.err)
     told = tests.call("/dev/stdin", stdin=None, input=source.encode())
-    tests.holds("a pipe", told.status == 1 and "/dev/stdin:19: undefined" in told.out, told.out + told.err)
+    tests.holds("a pipe", told.status == 1 and "/dev/stdin:19: error: undefined" in told.out, told.out + told.err)
     told = tests.call(tests.file("with_header.c", "#include <stdint.h>\nint x;\nint main(void) { return (int)(uintptr_t)&x == 0; }\n"))
     tests.holds("a header", told.status == 1 and "exit status=1\n" in told.out, told.out + told.err)
     with open("/dev/full", "wb") as full:
         ran = subprocess.run([*tests.words, f"{PROGRAMS}/arenas_joined.c"], stdout=full, stderr=subprocess.PIPE, encoding="utf-8")
         tests.holds("an output that can't be written", ran.returncode == 2 and ran.stderr.count("\n") == 1, ran.stderr)
+
+
+def try_proved(tests: Tests) -> None:
+    """Only what tools/prove made of the sources as they are is called the proved program."""
+    programs = {"pvrun": tests.pvrun, "pv_replay": f"{os.path.dirname(tests.pvrun)}/pv_replay"}
+    if not os.path.exists(programs["pv_replay"]):
+        programs["pv_replay"] = find_program(None, "pv_replay")
+
+    def told(words: list[str]) -> str:
+        return subprocess.run(words, stdin=subprocess.DEVNULL, stdout=subprocess.PIPE, encoding="utf-8").stdout
+
+    for what, is_so, got in try_standing(tests.room, programs, "explore", told):
+        tests.holds(what, is_so, got)
 
 
 def try_interrupt(tests: Tests) -> None:
@@ -284,7 +298,7 @@ def self_test(folder: Optional[str] = None) -> int:
         except Fault as fault:
             print(f"explore: {fault}", file=sys.stderr)
             return 2
-        for part in (try_places, try_lists, try_bounds, try_choice, try_words, try_refusals, try_files, try_interrupt, try_programs, try_readme):
+        for part in (try_places, try_lists, try_bounds, try_choice, try_words, try_refusals, try_files, try_proved, try_interrupt, try_programs, try_readme):
             part(tests)
     print(f"{tests.passed} passed, {tests.failed} failed")
     return int(tests.failed > 0)

@@ -71,8 +71,8 @@ function place(before,    part, n, i, file, number) {
 function note(before, text) {
   if (text in noted || ++told > 20) return
   noted[text] = 1
-  if (tell) print "pvrun: hint: " place(before) ": " text
-  else if (notes != "") print "pvrun: note: " place(before) ": " text >notes
+  if (tell) print place(before) ": note: " text
+  else if (notes != "") print place(before) ": note: " text >notes
 }
 
 # ---- attributes

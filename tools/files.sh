@@ -1,9 +1,20 @@
 # For ./pvrun: the files that it reads and writes.
+# shellcheck shell=bash disable=SC2034,SC2154
 
 # The folder for files of this call, in `held`.
 hold() {
   [ -z "$held" ] || return 0
-  held=$(mktemp -d) || exit 127
+  held=$(mktemp -d 2>/dev/null) && { echo >"$held/first"; } 2>/dev/null && return
+  say "temporary files can't be written (in ${TMPDIR:-/tmp})"
+  exit 127
+}
+
+# Commands that the launcher can't do without.
+want() {
+  local name
+  for name in "$@"; do
+    command -v "$name" >/dev/null || { say "the command $name is not found, and this source can't be looked at without it" && exit 127; }
+  done
 }
 
 can_read() { [ -r "$1" ] && [ ! -d "$1" ]; }
@@ -29,13 +40,18 @@ first_of() { head -c "$most_bytes" -- "$1" 2>/dev/null; }
 
 # Whether the source has preprocessing directives. Most files without any are known by having no # at all.
 has_directives() {
-  local part=
+  local part='' status
   if IFS= LC_ALL=C read -r -d '' -n 16384 part 2>/dev/null <"$1" || [ "${#part}" -ge 16384 ]; then
+    want head grep awk
     first_of "$1" | LC_ALL=C grep -qaE '#|%:' || return
   else
     [[ $part == *'#'* || $part == *'%:'* ]] || return
   fi
+  want head awk
   first_of "$1" | LC_ALL=C awk -f "$tools/lines.awk" -f "$tools/directives.awk" >/dev/null
+  status=$?
+  [ "$status" -le 1 ] || { say "awk could not look for directives in '$1'" && exit 127; }
+  return "$status"
 }
 
 # The file that the program gets, in `text`; `unread` is a file that can't be read, and `fresh` says that the text was preprocessed just now.
@@ -53,7 +69,7 @@ take_files() {
     text=$held/text.i fresh=--fresh
   fi
   [ -z "$raw" ] || [ -z "$input" ] || [ -n "$quiet" ] || say "note: --raw never preprocesses, so '$input' is not read"
-  [ -z "$keep" ] || attend cat -- "$text" >"$keep" || exit 127
+  [ -z "$keep" ] || attend cat -- "$text" 2>/dev/null >"$keep" || { say "'$keep' could not be written" && exit 127; }
 }
 
 # The bytes that the program finds on its standard input. A pipe is read once, up to more bytes than a source can have.
@@ -74,8 +90,9 @@ take_script() {
 
 # A file that is written is none of those that are read, and can be written: looked at before a run, and before a proof.
 guard_files() {
-  local name
+  local name others=("$keep" "$report" "$sarif" "$errors")
   for name in "$keep" "$report" "$sarif" "$errors"; do
+    others=("${others[@]:1}")
     [ -n "$name" ] || continue
     if [ "$name" -ef "$source" ] || { [ -n "$input" ] && [ "$name" -ef "$input" ]; } || { [ -n "$script" ] && [ "$name" -ef "${handed[script]}" ]; }; then
       say "'$name' is read, so it can't be written"
@@ -83,5 +100,15 @@ guard_files() {
     fi
     # (who reads a pipe would take this for the end)
     [ -p "$name" ] || { : >>"$name"; } 2>/dev/null || { say "'$name' can't be written" && exit 127; }
+    is_among "$name" ${others[@]+"${others[@]}"} && say "'$name' would be written twice" && exit 127
   done
+}
+
+# Whether a plain file is also one of the others.
+is_among() {
+  local name
+  for name in "${@:2}"; do
+    if [ -f "$1" ] && [ "$1" -ef "$name" ]; then return; fi
+  done
+  return 1
 }

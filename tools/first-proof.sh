@@ -1,4 +1,5 @@
 # For ./pvrun: the way to a program that is not proved yet.
+# shellcheck shell=bash disable=SC2154
 
 # Proves and builds the program. Meanwhile an answer is shown before its proofs, for which the proof gives way a little.
 prove_first() {

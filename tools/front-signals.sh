@@ -1,4 +1,5 @@
 # For tools/front: what programs are told as they begin, programs that a signal ends, launchers that one ends, and the run turn by turn.
+# shellcheck shell=bash disable=SC2016,SC2086,SC2154
 
 # The launcher over something else in the place of pvrun.
 instead() {
@@ -40,6 +41,10 @@ try_ended() {
   instead 'kill -KILL $$'
   try_call 'no memory left on the machine' 137 '' run "$work/plain.c"
   try 'no memory left on the machine: words' "$said KILL, as a machine does that has no memory left; so there is no report" "$err"
+  instead 'while :; do :; done'
+  launcher=(bash -c 'ulimit -t 1; exec "$@"' bash "${launcher[@]}")
+  try_call 'no time left' 137 '' run "$work/plain.c"
+  try 'no time left: words' "$said KILL: the time that 'ulimit -t' gives had passed; so there is no report" "$err"
   instead 'printf "some output\n"; kill -ABRT $$'
   try_call 'output, and no report' 134 'some output' run "$work/plain.c" --report "$work/report"
   try 'output, and no report: the report' '' "$(cat "$work/report")"

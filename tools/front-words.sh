@@ -1,4 +1,5 @@
 # For tools/front: words, names of every kind, pipes, and machines that lack something.
+# shellcheck shell=bash disable=SC2002,SC2016,SC2086,SC2154
 
 # ---- words that are none
 
@@ -18,7 +19,9 @@ try_slips() {
   try_slip 'an empty name' 'the name of the file is empty' check ''
   try_slip 'an option before the file' 'the file comes first: pvrun run FILE -I' run -I headers "$file"
   try_slip 'no such option' "'--fast' is no option of run" run "$file" --fast
-  try_slip 'a word too many' "'b.c' is no option of check" check "$file" b.c
+  try_slip 'a second file' "'b.c' is a second file, and check takes one (a source can #include others)" check "$file" b.c
+  try_call 'standard input by a dash' 11 'fault read' run -
+  try 'standard input by a dash: hint' 'pvrun: hint: standard input is called /dev/stdin: pvrun run /dev/stdin' "$err"
   try_slip "an option of run's" "'--turns' is no option of layout" layout "$file" --turns 3
   try_slip 'no value' '--turns wants a value' run "$file" --turns
   try_slip 'an empty folder' '-I wants a value' run "$file" -I ''
@@ -38,11 +41,11 @@ try_slips() {
   try_slip 'gen without a number' 'gen takes one number, from 1 to 8192 without a leading zero' gen 9000
   try_slip 'gen with an option' "gen takes no option '--raw'" gen 3 --raw
   try_slip 'a word that can not be dropped' "'const' is no word that --drop takes away (restrict, volatile, attributes)" run "$file" --drop const
-  try_slip 'an empty name of a report' 'the name behind --report is empty' run "$file" --report ''
-  try_slip 'an empty name for standard error' 'the name behind --stderr is empty' run "$file" --stderr ''
+  try_slip 'an empty name of a report' 'the name after --report is empty' run "$file" --report ''
+  try_slip 'an empty name for standard error' 'the name after --stderr is empty' run "$file" --stderr ''
   try_slip "standard error of what doesn't run" "'--stderr' is no option of check" check "$file" --stderr x
   try_slip 'no name of an input' '--input wants a value' run "$file" --input
-  try_slip 'an empty name of a SARIF' 'the name behind --sarif is empty' run "$file" --sarif ''
+  try_slip 'an empty name of a SARIF' 'the name after --sarif is empty' run "$file" --sarif ''
 }
 
 try_unread() {
@@ -54,10 +57,12 @@ try_unread() {
 }
 
 try_told() {
+  local word
   call --help
   try_holds '--help' 'usage: pvrun run FILE' "$out"
-  call -h
-  try_holds '-h' 'usage: pvrun run FILE' "$out"
+  for word in -h help 'run -h' 'check --help' 'step -h' 'replay --help'; do
+    try_call "$word" 0 "$(cat tools/help.txt)" $word
+  done
   call --version
   try_holds '--version' "Valumeiro $(cat VERSION) (" "$out"
 }
@@ -70,14 +75,14 @@ try_name() {
   cp "$work/unset.c" "$work/names/$name"
   printf '#define B\nint main(void) { return 0; }\nint f(void) { return g; }\n' >"$work/names/refused $name"
   try_call "the name '$shown'" 2 'indeterminate line=3 turn=3' run "$name"
-  try_holds "the name '$shown': words" "$shown:3: indeterminate: " "$err"
+  try_holds "the name '$shown': words" "$shown:3: error: indeterminate: " "$err"
   printf '#define A\n' >>"$name"
   try_call "the name '$shown' with a directive" 2 '' run "$name" --keep 'kept text' --report 'kept report'
   try "the name '$shown' with a directive: report" 'indeterminate line=3 turn=3' "$(cat 'kept report')"
-  try_holds "the name '$shown' with a directive: words" "$shown:3: indeterminate: " "$err"
+  try_holds "the name '$shown' with a directive: words" "$shown:3: error: indeterminate: " "$err"
   try_call "the name '$shown', refused" 8 'refused reason=constraint index=1' check "refused $name"
-  try_holds "the name '$shown', refused: place" ':3:1: refused: constraint' "$err"
-  try_holds "the name '$shown', refused: hint" "hint: refused $shown:3: this seems" "$err"
+  try_holds "the name '$shown', refused: place" "refused $shown:3:15: error: refused: constraint: this seems to be what is refused" "$err"
+  try_holds "the name '$shown', refused: the declaration" "refused $shown:3:1: note: the declaration that is refused begins here" "$err"
 }
 
 try_names() {
@@ -107,7 +112,7 @@ try_pipes() {
   try_call 'a pipe without directives' 2 'indeterminate line=3 turn=3' run <(cat "$work/unset.c")
   try_holds 'a pipe: words' '/dev/fd/' "$err"
   try_call 'a pipe that is refused' 8 'refused reason=constraint index=0' check <(echo 'int main(void) { return n; }')
-  try_holds 'a pipe that is refused: place' ':1:1: refused: constraint' "$err"
+  try_holds 'a pipe that is refused: place' ':1:1: note: the declaration that is refused begins here' "$err"
   try_call 'a script from a pipe' 2 'indeterminate line=3 turn=3' run "$work/unset.c" --script <(printf 'n 1 0x30000\n')
   try_holds 'a script from a pipe: words' '4 bytes at 0x30000' "$err"
   call run /dev/stdin <"$work/hello.c"
@@ -142,11 +147,41 @@ try_lacks() {
   try_holds 'no preprocessor: words' 'there is no preprocessor' "$err"
   try_call 'no Python: a refusal' 8 'refused reason=constraint index=0' check "$work/refused.c"
   try_holds 'no Python: a line of words' 'without python3' "$err"
+  try_holds 'no Python: the place' "$work/refused.c:1:1: error: refused: constraint" "$err"
   launcher=(env CPP=no_such_command "${kept[@]}")
   try_call 'no such preprocessor' 127 '' run "$work/hello.c"
   try_holds 'no such preprocessor: words' "CPP is 'no_such_command'" "$err"
   launcher=(env NO_COLOR=1 "${kept[@]}")
   launcher=("${kept[@]}")
+}
+
+# Commands that are not there, and limits of the shell: the launcher's own statuses, and why.
+try_edges() {
+  local kept=("${launcher[@]}") name
+  for name in awk head; do
+    only gcc && rm "$room/path/$name"
+    launcher=(env "PATH=$room/path" "${kept[@]}")
+    try_call "no $name" 127 '' run "$work/hello.c"
+    try_holds "no $name: words" "the command $name is not found" "$err"
+    try_call "no $name: no need" 0 'exit status=3 turn=3' run "$work/plain.c"
+    try_call "no $name: a fault" 2 'indeterminate line=3 turn=3' run "$work/unset.c"
+    [ "$name" = head ] || try "no $name: words of a fault" 'pvrun: hint: without awk nothing is said in words' "$err"
+  done
+  launcher=(env -i "${kept[@]}")
+  try_call 'no environment' 0 $'hello\nexit status=3 turn=6' run "$work/hello.c"
+  launcher=(bash -c 'ulimit -n 4; exec "$@"' bash "${kept[@]}")
+  try_call 'four files' 125 '' run "$work/plain.c"
+  try_holds 'four files: words' 'too few files may be open here' "$err"
+  launcher=("${kept[@]}")
+  # (what tests this writes no file either)
+  err=$(bash -c 'ulimit -f 0; "$@"; echo "status $?"' bash "${kept[@]}" run "$work/hello.c" 2>&1 | cat)
+  try 'no byte of a file' "pvrun: temporary files can't be written (in ${TMPDIR:-/tmp})"$'\nstatus 127' "$err"
+  try_call 'a text that can not be kept' 127 '' run "$work/hello.c" --keep /dev/full
+  try 'a text that can not be kept: words' "pvrun: '/dev/full' could not be written" "$err"
+  try_call 'two texts in one file' 127 '' run "$work/hello.c" --keep "$work/kept" --report "$work/./kept"
+  try 'two texts in one file: words' "pvrun: '$work/kept' would be written twice" "$err"
+  rm -f "$work/kept"
+  try_call 'two texts to one device' 0 hello run "$work/hello.c" --keep /dev/null --report /dev/null
 }
 
 # Each preprocessor that is there, alone.
@@ -158,7 +193,7 @@ try_preprocessors() {
     try_call "$name" 0 $'hello\nexit status=3 turn=6' run "$work/hello.c"
     call run "$work/fault.c"
     try "$name: a fault" 1 "$status"
-    try_holds "$name: the place of a fault" "$work/fault.c:4: undefined: " "$err"
+    try_holds "$name: the place of a fault" "$work/fault.c:4: error: undefined: " "$err"
     try_call "$name: a pipe" 0 $'hello\nexit status=3 turn=6' run <(cat "$work/hello.c")
   done
   launcher=("${kept[@]}")
@@ -169,9 +204,26 @@ try_colours() {
   local shown
   command -v script >/dev/null || return
   shown=$(NO_COLOR='' script -qec "'${launcher[0]}' run '$work/unset.c'" /dev/null)
-  try_holds 'colours on a terminal' $'\033[1;31mindeterminate:\033[0m' "$shown"
+  try_holds 'colours on a terminal' $'\033[1;31merror:\033[0m indeterminate:' "$shown"
   shown=$(NO_COLOR=1 script -qec "'${launcher[0]}' run '$work/unset.c'" /dev/null)
   try 'NO_COLOR' no "$([[ $shown == *$'\033'* ]] && echo yes || echo no)"
+}
+
+# The places of faults and refusals are those of gcc's messages to the problem matcher $gcc of Visual Studio Code and to vim as it comes. (Its file is
+# the shortest one that fits, and no name here has a colon.)
+try_editors() {
+  local matcher='^([^:]*):([0-9]+):([0-9]*):?[[:space:]]+(fatal[[:space:]]+)?(warning|error):[[:space:]]+(.*)$' mode name place row
+  for row in 'fault.c run 4:' 'unset.c run 3:' 'refused.c check 1:18' 'wants_m.c run 3:3'; do
+    read -r name mode place <<<"$row"
+    call "$mode" "$work/$name"
+    [[ ${err%%$'\n'*} =~ $matcher ]]
+    try "\$gcc: $name" "$work/$name:$place:error" "${BASH_REMATCH[1]}:${BASH_REMATCH[2]}:${BASH_REMATCH[3]}:${BASH_REMATCH[5]}"
+    command -v vim >/dev/null || continue
+    printf '%s\n' "$err" >"$work/said"
+    (cd "$work" && vim -u NONE -N -es -c 'cfile said' \
+      -c "call writefile(map(filter(getqflist(), 'v:val.valid'), 'fnamemodify(bufname(v:val.bufnr), \":t\") . \":\" . v:val.lnum'), 'places')" -c 'qa!' </dev/null >/dev/null 2>&1)
+    try "vim: $name" "$name:${place%%:*}" "$(head -n 1 "$work/places")"
+  done
 }
 
 # README begins with an ordinary file: the end of its text, its report and its words are those that are shown there.
@@ -205,18 +257,20 @@ try_journals() {
   try_slip 'a journal, and nothing to do with it' 'replay writes or checks: pvrun replay write FILE, pvrun replay check FILE' replay "$journal"
   try_slip 'no file for a journal' 'replay write wants a file' replay write
   try_slip "an option of run's for a journal" "'--zap' is no option of replay write" replay write "$work/unset.c" --zap off
-  try_slip 'a word too many for a journal' "'b.c' is no option of replay write" replay write "$work/unset.c" b.c
-  try_slip 'two journals' 'replay check wants a file, and no word more' replay check "$journal" "$journal"
+  try_slip 'a second file for a journal' "'b.c' is a second file, and replay write takes one (a source can #include others)" replay write "$work/unset.c" b.c
+  try_slip 'two journals' 'replay check wants one file, and no other argument' replay check "$journal" "$journal"
 }
 
 try_all_words() {
   try_readme
+  try_editors
   try_slips
   try_unread
   try_told
   try_names
   try_pipes
   try_lacks
+  try_edges
   try_preprocessors
   try_colours
   try_journals

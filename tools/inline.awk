@@ -72,6 +72,6 @@ END {
     if ((word in other) || met[word] == times[word]) continue
     shown = place[word]
     gsub(/[\001-\037\177]/, "?", shown)
-    print "pvrun: note: " shown ": " word " is inline without extern, so there is no external definition, which C17 wants of a name that is used (6.7.4p7, 6.9p5): its inline definition is run"
+    print shown ": note: " word " is inline without extern, so there is no external definition, which C17 wants of a name that is used (6.7.4p7, 6.9p5): its inline definition is run"
   }
 }

@@ -6,18 +6,21 @@ show_place() {
   shown=$(find_place)
   # (a pipe is told by its own name, and not by that of the file that holds what it had)
   [ "$text" = "$source" ] || shown=${shown/#"$text:"/"$source:"}
-  [ -z "$shown" ] || printf '%s\n' "$shown" >&2
   case ${shown%%$'\n'*} in
-    *'refused: size' | *'refused: main') return ;;
+    *'refused: size' | *'refused: main') tell_place "$shown" && return ;;
   esac
-  # (attributes and pragmas that mean something stand there still)
-  NAME=$source NOTES='' DROP='' AWAY='' TELL=yes awk -f "$tools/extensions.awk" "$tools/extensions.txt" "$text" >&2
   if command -v python3 >/dev/null; then
-    attend python3 "$tools/spot" "$program" "$text" "$source" >&2
+    attend python3 "$tools/spot" "$program" "$text" "$source" "$shown" >&2 || tell_place "$shown"
   else
+    tell_place "$shown"
     say 'hint: without python3 the statement is not looked for'
   fi
+  # (attributes and pragmas that mean something stand there still)
+  NAME=$source NOTES='' DROP='' AWAY='' TELL=yes awk -f "$tools/extensions.awk" "$tools/extensions.txt" "$text" >&2
 }
+
+# What pvwhere says, as a compiler's message.
+tell_place() { [ -z "$1" ] || printf '%s\n' "${1/: refused: /: error: refused: }" >&2; }
 
 # What pvwhere says of the source. Where it is not built, nothing.
 find_place() {
@@ -34,7 +37,7 @@ tell_meaning() {
   case $mode$status in
     run[1-57] | settle[1-57]) [ -n "$sided" ] || attend "$tools/explain-fault" $fresh "$program" "$text" "$source" "$status" ${again[@]+"${again[@]}"} ;;
     *8) show_place ;;
-    *10) say "hint: a word isn't UTF-8" ;;
+    *10) say "hint: an argument isn't UTF-8" ;;
     *11) say "hint: '$source' could not be read" ;;
     *14) say 'hint: the run made a pair for which --sides has no letter' ;;
   esac

@@ -10,6 +10,7 @@ from page_memory import MOST_BARS, Picture
 from page_runs import REFUSED, RUN_STATUSES, SCRIPT_REFUSED, Answer, Asked, Programs
 from page_text import counted, escaped, tag
 from page_words import script_words, verdict_of
+from standing import is_proved, warning
 
 MOST_LINES = 20000  # lines of a source that are shown
 MOST_STORY = 2000  # lines of a story
@@ -304,7 +305,8 @@ def whole_page(title: str, body: str, scripts: list[str], may_connect: bool = Fa
 
 def origin(programs: Programs) -> str:
     """Whose word the page is."""
-    program = shown_path(programs.pvrun) if programs.folder else "the proved program pvrun"
+    program = "the proved program pvrun" if is_proved(programs.pvrun) else shown_path(programs.pvrun)
     words = f"Verdict, output, story and census are those of {program}, and the events those of pv_replay beside it. "
-    words += "These programs are NOT PROVED: they are tried before their proofs. " if programs.has_checks else ""
+    said = warning([programs.pvrun, programs.pv_replay])
+    words += f"{said}. " if said else ""
     return tag("footer", note(words + "What is drawn of them, and the words beside them, are not proved."))

@@ -1,4 +1,4 @@
-"""For tools/page: the proved programs over one source, in a folder of its own and within bounds, and what they answer."""
+"""For tools/page: the programs over one source, in a folder of its own and within bounds, and what they answer."""
 import os
 import re
 import sys
@@ -9,6 +9,7 @@ from explore_runs import HERE, LONGEST_FILE, SHAPES, Fault, find_program, write
 from page_calls import Caller, Kept, Late
 from page_journal import Journal
 from page_markers import files_of, line_in, own_messages, reads_bytes
+from standing import has_checks
 
 LONGEST_SOURCE = 1 << 20  # bytes of a source, and
 LONGEST_SCRIPT = 1 << 16  # of a script; the program refuses longer ones itself
@@ -61,7 +62,7 @@ class Answer:
 # ---- the programs over one source
 
 class Programs:
-    """The proved programs, in the folder or as they are built here. pvwhere says where a refusal is, and may be missing."""
+    """The programs in the folder, or as they are built here. pvwhere says where a refusal is, and may be missing."""
 
     def __init__(self, folder: Optional[str]):
         self.folder = folder
@@ -71,8 +72,7 @@ class Programs:
             self.pvwhere: Optional[str] = find_program(folder, "pvwhere")
         except Fault:
             self.pvwhere = None
-        with open(self.pvrun, "rb") as file:
-            self.has_checks = b"AddressSanitizer" in file.read()  # as tools/unproved compiles it, before its proofs
+        self.has_checks = has_checks(self.pvrun)
 
 
 class Question:
@@ -180,8 +180,7 @@ class Question:
     def find_place(self, answer: Answer) -> None:
         """The line of the source that the answer speaks of, and what the launcher would say of it in words."""
         if answer.status == REFUSED:
-            said = self.refusal()
-            answer.hints = self.hints(answer)
+            said, answer.hints = self.refusal(answer)
         elif answer.status in (1, 2, 3, 4, 5, 7):
             said = self.fault(answer.status)
         else:
@@ -196,18 +195,17 @@ class Question:
         """What the source is called where no line marker names it."""
         return {os.fsencode(name) for name in (self.asked.name, f"./{self.asked.name}", self.source, self.text)}
 
-    def refusal(self) -> bytes:
-        if not self.programs.pvwhere:
-            return b""
-        return bytes(self.caller.call([self.programs.pvwhere, self.text])[1].bytes)
-
-    def hints(self, answer: Answer) -> list[str]:
-        """The hints of tools/spot."""
+    def refusal(self, answer: Answer) -> tuple[bytes, list[str]]:
+        """What tools/spot says first, and what it says besides, a line each: what the others of its messages have below them is left out. (Of a shut
+        source no compiler is asked.)"""
+        proved = bytes(self.caller.call([self.programs.pvwhere, self.text])[1].bytes) if self.programs.pvwhere else b""
         if answer.said.get("reason") in ("size", "main"):
-            return []
-        said = self.caller.call([f"{HERE}/spot", self.programs.pvrun, self.text, self.asked.name])[1]
-        lines = bytes(said.bytes).decode("utf-8", "replace").splitlines()
-        return [line.removeprefix("pvrun: ") for line in lines if line.startswith("pvrun: hint: ")]
+            return proved, []
+        words = [f"{HERE}/spot", *(["--alone"] if self.is_shut else []), self.programs.pvrun, self.text, self.asked.name, os.fsdecode(proved)]
+        lines = bytes(self.caller.call(words)[1].bytes).splitlines()
+        more = next((number for number, line in enumerate(lines) if number and PLACE.fullmatch(line)), len(lines))
+        others = [line.decode("utf-8", "replace") for line in lines[more:] if PLACE.fullmatch(line) or line.startswith(b"pvrun: hint: ")]
+        return b"\n".join(lines[:more]) or proved, [line.removeprefix("pvrun: ") for line in others]
 
     def fault(self, status: int) -> bytes:
         """The words of tools/explain-fault. (Of a shut source no file is read that a line marker names.)"""

@@ -1,4 +1,4 @@
-"""For tools/page --listen: an editor on this machine alone, which runs the proved programs for each request.
+"""For tools/page --listen: an editor on this machine alone, which runs the programs for each request.
 
 Each request has a folder of its own, ten seconds for all that it asks, and waits until no two others run. What is typed
 is a file's text or is checked: no word of a command comes from a request but a number of turns.

@@ -16,6 +16,7 @@ from page_memory import Addresses, Picture, Turns
 from page_runs import Answer, Asked, Programs
 from page_text import escaped, shown
 from page_words import HEADINGS, SENTENCES, script_words
+from standing_tests import try_standing
 
 EXAMPLES = f"{HERE}/../examples"
 MANY = """void *malloc(unsigned long);
@@ -328,6 +329,17 @@ def try_refused(tests: Tests) -> None:
         tests.same(f"refused: the marked line of {text!r}", [wanted], marked)
 
 
+def try_proved(tests: Tests) -> None:
+    """Only what tools/prove made of the sources as they are is called the proved program."""
+    programs = {"pvrun": tests.programs.pvrun, "pv_replay": tests.programs.pv_replay}
+
+    def told(words: list[str]) -> str:
+        return subprocess.run([*words, "-o", "-"], stdin=subprocess.DEVNULL, stdout=subprocess.PIPE, encoding="utf-8").stdout
+
+    for what, is_so, got in try_standing(tests.room, programs, "page", told):
+        tests.holds(what, is_so, got)
+
+
 def try_alone(tests: Tests) -> None:
     """With the programs and Python alone, without a shell, a page has verdict, marked line and picture."""
     path = os.path.join(tests.room, "path")
@@ -419,7 +431,7 @@ def self_test(folder: Optional[str] = None) -> int:
         except Fault as fault:
             print(f"page: {fault}", file=sys.stderr)
             return 2
-        for part in (try_texts, try_script_words, try_picture, try_words, try_examples, try_hostile, try_preprocessed, try_refused, try_alone):
+        for part in (try_texts, try_script_words, try_picture, try_words, try_examples, try_hostile, try_preprocessed, try_refused, try_proved, try_alone):
             with progress(part.__name__):
                 part(tests)
         if not try_turns(tests):

@@ -88,7 +88,7 @@ def try_pointing(tests: Tests, browser: Browser) -> None:
     opened(tests, browser, f"{EXAMPLES}/settled_by_a_step.c", *given_with("settled_by_a_step"))
     for selector, holds in {
         ".bar[data-id='x#1']": "create x#1 turn=0", ".mark.use circle": "use 1 turn=16 test=live",
-        ".mark.low path": "pair 1 turn=14 address=0x20004",
+        ".mark.low path": "pair 1 turn=14 address=0x100000004",
     }.items():
         left, top, width, height = box_of(browser, selector)
         browser.point(left + min(width / 2, 90), top + height / 2)

@@ -1,4 +1,5 @@
 # Completion of pvrun's words for bash: sourced from a start-up file, or where bash-completion looks for it (./pvrun --install puts it there).
+# shellcheck shell=bash disable=SC2207
 
 _pvrun() {
   local word=${COMP_WORDS[COMP_CWORD]} last=${COMP_WORDS[COMP_CWORD - 1]} first=1 mode options

@@ -13,7 +13,7 @@ write_journal() {
 }
 
 check_journal() {
-  [ $# = 1 ] || refuse_beside 'replay check wants a file, and no word more' check "$@"
+  [ $# = 1 ] || refuse_beside 'replay check wants one file, and no other argument' check "$@"
   [ -n "$1" ] || refuse_beside 'the name of the file is empty' check "$@"
   can_read "$1" || refuse_beside "'$1' could not be read" check "$@"
   find_beside pv_replay

@@ -1,4 +1,5 @@
 # For tools/prove and tools/room, from the top of the repository: the rooms in which crates are proved.
+# shellcheck shell=bash disable=SC2154
 
 # A copy by links, or a true one where there can be no links.
 give() { cp -al "$1" "$2" 2>/dev/null || { rm -rf "$2" && cp -a "$1" "$2"; }; }

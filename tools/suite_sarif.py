@@ -19,7 +19,7 @@ from suite_places import Place, Text, is_ours, plain, way_to
 
 HERE = os.path.dirname(os.path.realpath(__file__))
 SCHEMA = "https://json.schemastore.org/sarif-2.1.0.json"
-PLACED = re.compile(r"(.+?):(\d+)(?::\d+)?: (?:(?:error|warning|note|hint): )?")
+PLACED = re.compile(r"(.+?):(\d+)(?::\d+)?: (?:error|warning|note): ")
 AT_LINE = re.compile(r" line=(\d+)(?= turn=\d+\Z|\Z)")
 Json = "dict[str, object]"
 # Of each rule that is no clause: what it is, more about it, and how grave a result is.
@@ -175,8 +175,9 @@ def find_refusal(asked: Asked, told: Told, room: str) -> None:
         told.line = int(found[1]) if found else None
     if pvrun:
         _, said = suite_calls.called([sys.executable, os.path.join(HERE, "spot"), pvrun, told.path, os.fsdecode(told.source)])
-        for hint in said.decode("utf-8", "replace").splitlines():
-            take_hint(told, hint.removeprefix("pvrun: ").removeprefix("hint: "))
+        for message in said.decode("utf-8", "replace").splitlines():
+            if PLACED.match(message) and not message.endswith(": note: the declaration that is refused begins here"):
+                take_hint(told, message)
 
 
 def take_hint(told: Told, hint: str) -> None:

@@ -1,4 +1,5 @@
 # For ./pvrun: reads the words that it is called with.
+# shellcheck shell=bash disable=SC2034
 
 # Sets mode, source and what the options say; the first word that is none is told in `slip`. `handed` are the program's own options (the name of
 # the script's file is that numbered `script`), `again` those of them that a second run needs (which can't be made where there are sides:
@@ -11,6 +12,8 @@ read_words() {
         slip="$mode wants a file"
       elif [ -z "$source" ]; then
         slip='the name of the file is empty'
+      elif [ "$source" = - ] && [ ! -e - ]; then
+        slip="standard input is called /dev/stdin: pvrun $mode /dev/stdin"
       elif [[ $source == -* ]] && [ ! -e "$source" ]; then
         slip="the file comes first: pvrun $mode FILE $source"
       fi
@@ -46,7 +49,8 @@ read_options() {
       *-[IDU]?*) changes+=("$1") && shift && continue ;;
       run--script | run--turns | run--zap | run--watch | run--sarif | run--stderr | settle--stderr) ;;
       settle--script | settle--turns | settle--zap | settle--sides) ;;
-      *) slip="'$1' is no option of $mode" ;;
+      "$mode"-*) slip="'$1' is no option of $mode" ;;
+      *) slip="'$1' is a second file, and $mode takes one (a source can #include others)" ;;
     esac
     if [ -z "$slip" ] && [ $# -lt 2 ]; then slip="$1 wants a value"; fi
     [ -n "$slip" ] || read_value "$1" "$2"
@@ -67,7 +71,7 @@ read_value() {
     *) read_run_value "$1" "$2" && handed+=("$1" "$2") ;;
   esac
   case $1 in
-    --keep | --report | --sarif | --stderr | --input) [ -n "$2" ] || slip="the name behind $1 is empty" ;;
+    --keep | --report | --sarif | --stderr | --input) [ -n "$2" ] || slip="the name after $1 is empty" ;;
     --script | --turns | --zap) again+=("$1" "$2") ;;
     --sides) sided=yes ;;
   esac

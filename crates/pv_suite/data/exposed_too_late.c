@@ -3,7 +3,7 @@
 int x = 3;
 
 int main(void) {
-  int *p = (int *)0x20000UL;
+  int *p = (int *)0x100000000UL;
   unsigned long address = (unsigned long)&x;
   int *q = (int *)address;
   return *q + *p;

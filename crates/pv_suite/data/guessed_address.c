@@ -4,6 +4,6 @@
 int x = 3;
 
 int main(void) {
-  int *p = (int *)0x20000UL;
+  int *p = (int *)0x100000000UL;
   return *p;
 }

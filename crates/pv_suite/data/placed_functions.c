@@ -18,5 +18,5 @@ int main(void) {
   union either first, second;
   first.function = a;
   second.function = b;
-  return (second.number - first.number) * 10 + (first.number == 0x20000);
+  return (second.number - first.number) * 10 + (first.number == 0x100000000);
 }

@@ -6,6 +6,6 @@ int x = 4;
 int main(void) {
   int *typed_in;
   printf("%p\n", (void *)&x);
-  typed_in = (int *)0x12340UL;
+  typed_in = (int *)0x123456780UL;
   return *typed_in;
 }

@@ -1,8 +1,8 @@
-create x#1 turn=0 base=0x20000 size=4
-create y#1 turn=0 base=0x20004 size=4
+create x#1 turn=0 base=0x100000000 size=4
+create y#1 turn=0 base=0x100000004 size=4
 expose x#1 turn=7
 expose y#1 turn=11
-pair 1 turn=14 address=0x20004 low=x#1 high=y#1
-pair 2 turn=17 address=0x20004 low=x#1 high=y#1
+pair 1 turn=14 address=0x100000004 low=x#1 high=y#1
+pair 2 turn=17 address=0x100000004 low=x#1 high=y#1
 use 1 turn=20 test=live left=x#1,y#1
 fault turn=21
