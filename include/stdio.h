@@ -36,16 +36,6 @@ enum { __error_stream = 32, __input_stream = 48 };
 #define stdin ((FILE *)__input_stream)
 
 int printf(const char *, ...);
-#ifdef __pv_lower
-int sprintf(char *, const char *, ...);
-int snprintf(char *, size_t, const char *, ...);
-int vprintf(const char *, __builtin_va_list);
-int vsprintf(char *, const char *, __builtin_va_list);
-int vsnprintf(char *, size_t, const char *, __builtin_va_list);
-#ifndef __PV_WANTS_ERROR
-#define vfprintf(stream, format, list) (__must_be_stream(stream), vprintf(format, list))
-#endif
-#endif
 
 static void __must_be_stream(FILE *__stream) {
   if (__stream != (FILE *)16 && __stream != (FILE *)32) {
@@ -111,6 +101,17 @@ static int setvbuf(FILE *__stream, char *__buffer, int __mode, size_t __size) {
 static void setbuf(FILE *__stream, char *__buffer) {
   setvbuf(__stream, __buffer, __buffer ? _IOFBF : _IONBF, BUFSIZ);
 }
+
+#ifdef __pv_lower
+int sprintf(char *, const char *, ...);
+int snprintf(char *, size_t, const char *, ...);
+int vprintf(const char *, __builtin_va_list);
+int vsprintf(char *, const char *, __builtin_va_list);
+int vsnprintf(char *, size_t, const char *, __builtin_va_list);
+#ifndef __PV_WANTS_ERROR
+#define vfprintf(stream, format, list) (__must_be_stream(stream), vprintf(format, list))
+#endif
+#endif
 
 #ifdef __PV_WANTS_PERROR
 #include <pv_messages.h>
