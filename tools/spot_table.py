@@ -71,7 +71,7 @@ NOT_THERE = [
     ("gets sscanf vscanf vfscanf vsscanf read", "of the functions that read <stdio.h> has getchar, fgets, scanf and their like"),
     ("fopen freopen fclose tmpfile tmpnam remove rename fseek ftell rewind fgetpos fsetpos", "there are no files beside the three streams"),
     ("sprintf snprintf vprintf vfprintf vsprintf vsnprintf asprintf", "of the functions that write by a format there are printf and fprintf"),
-    ("difftime strftime asctime ctime timespec_get sleep usleep", "of <time.h> there is what can be had without a clock"),
+    ("difftime strftime asctime ctime sleep usleep", "of <time.h> there is what can be had without a clock"),
     ("sin cos tan sqrt pow exp log floor ceil fabs fmod atof strtod strtof strtold", "there are no floating-point numbers"),
     ("setjmp longjmp system atexit at_quick_exit thrd_create mtx_lock pthread_create fork", "there are no jumps, threads or other programs"),
     ("strdup strndup strsep strtok_r getline alloca", "it is not of C17"),
