@@ -11,10 +11,10 @@ tell_freed_twice() {
   turn=${report##* turn=}
   [[ $report == 'undefined clause=6.2.4p2 reason=ended '* ]] || return 0
   while [ $# -gt 1 ]; do
-    [ "$1" = --zap ] || words+=("$1" "$2")
+    [[ $1 =~ ^--(zap|turns)$ ]] || words+=("$1" "$2")
     shift 2
   done
-  attend_program "$program" run "$source" ${words[@]+"${words[@]}"} --zap off >"$room/freed" 2>/dev/null
+  attend_program "$program" run "$source" ${words[@]+"${words[@]}"} --zap off --turns "$turn" >"$room/freed" 2>/dev/null
   written=$(tail -n 1 "$room/freed" | tr -d '\000')
   [[ $written == *"undefined clause=7.22.3.3p2 reason=ended "*" turn=$turn" ]] || return 0
   # (an allocation ends by free, or where realloc is called by that)
