@@ -42,15 +42,17 @@ hear_signals() {
 }
 
 # Ends what this shell began, and then this shell, by the signal that came.
+#
+# What a program's output goes through is no job: it ends when nobody writes to it any more, and so when this shell has ended, at the latest. What hands
+# on a run's output is ended too (`handing`).
 end_by() {
-  local job
+  local job began
   trap '' INT TERM HUP
-  # (what hands on a program's output is no job; it also ends when nobody writes to it any more)
-  exec 8>&-
-  for job in $(jobs -p) ${handing-}; do
+  mapfile -t began <<<"$(jobs -p)"
+  for job in "${began[@]}" ${handing-}; do
     kill -TERM -- "-$job" 2>/dev/null || kill -TERM "$job" 2>/dev/null
   done
-  wait 2>/dev/null
+  wait "${began[@]}" 2>/dev/null
   leave
   trap - EXIT INT TERM HUP
   kill -s "$1" "$BASHPID"

@@ -1,4 +1,4 @@
-"""For tools/explore and tools/page: whether the programs that they call are proved. A program is called so where tools/prove noted that it proved and
+"""For tools/explore, tools/page and tools/suite: whether the programs that they call are proved. A program is called so where tools/prove noted that it proved and
 built it from the sources as they are (`is_current` of tools/sources.sh); a file that merely lies where such a program belongs is not."""
 import os
 import subprocess

@@ -19,7 +19,7 @@ from suite_places import Place, Text, is_ours, plain, way_to
 
 HERE = os.path.dirname(os.path.realpath(__file__))
 SCHEMA = "https://json.schemastore.org/sarif-2.1.0.json"
-PLACED = re.compile(r"(.+?):(\d+)(?::\d+)?: (?:error|warning|note): ")
+MESSAGE = re.compile(r"(\S.*?):(\d+):\d+: (error|note): (.*)")
 AT_LINE = re.compile(r" line=(\d+)(?= turn=\d+\Z|\Z)")
 Json = "dict[str, object]"
 # Of each rule that is no clause: what it is, more about it, and how grave a result is.
@@ -73,6 +73,13 @@ class Asked(NamedTuple):
     ends_of: "Callable[[list[tuple[Told, str]]], list[str]]"
 
 
+class Reason(NamedTuple):
+    """Why a source is refused: in which line of its text, if that is known, and a sentence."""
+
+    line: Optional[int]
+    sentence: str
+
+
 class Told:
     """A run that is told: what was run, and how it ended."""
 
@@ -82,7 +89,7 @@ class Told:
         self.kind = end.split(" ")[0]
         self.text: Optional[Text] = None
         self.line: Optional[int] = None
-        self.hints: "list[str]" = []
+        self.reasons: "list[Reason]" = []
 
     def value(self, key: str) -> str:
         """The value of a key of its line."""
@@ -175,19 +182,20 @@ def find_refusal(asked: Asked, told: Told, room: str) -> None:
         told.line = int(found[1]) if found else None
     if pvrun:
         _, said = suite_calls.called([sys.executable, os.path.join(HERE, "spot"), pvrun, told.path, os.fsdecode(told.source)])
-        for message in said.decode("utf-8", "replace").splitlines():
-            if PLACED.match(message) and not message.endswith(": note: the declaration that is refused begins here"):
-                take_hint(told, message)
+        for line in said.decode("utf-8", "replace").splitlines():
+            take_message(told, line)
 
 
-def take_hint(told: Told, hint: str) -> None:
-    """Takes a hint, and the statement's line where it is the first one that names one."""
-    found = PLACED.match(hint)
+def take_message(told: Told, message: str) -> None:
+    """Takes a message of tools/spot: a reason, where it is an error, and what a compiler says of that. What stands below them is left out."""
+    found = MESSAGE.match(message)
     assert told.text is not None
-    if found and not told.hints:
+    if found and found[3] == "error":
         wanted = Place(os.fsencode(found[1]), int(found[2]))
-        told.line = next((line for line, place in enumerate(told.text.places, 1) if place == wanted), told.line)
-    told.hints.append(hint[found.end() :] if found else hint)
+        line = next((line for line, place in enumerate(told.text.places, 1) if place == wanted), None)
+        told.reasons.append(Reason(line or told.line, found[4].removeprefix(f"refused: {told.value('reason')}: ")))
+    elif found and " says: " in found[4] and told.reasons:
+        told.reasons[-1] = Reason(told.reasons[-1].line, f"{told.reasons[-1].sentence}; {found[4]}")
 
 
 def read(name: str) -> bytes:
@@ -229,7 +237,7 @@ def file_alone(name: bytes, line: int = 0) -> Json:
 
 
 def locations_of(asked: Asked, told: Told) -> "tuple[Json, list[Json]]":
-    """Where a run ended, and the lines from which it got there, where that is in a header that comes with the program."""
+    """Where a run ended, and where that is in a header that comes with the program, the statement from which it got there, with that header."""
     if told.kind == "script" and told.script:
         return file_alone(told.case.script if told.case else os.fsencode(told.script[1]), int(told.value("line") or 0)), []
     text = told.text
@@ -248,14 +256,18 @@ def locations_of(asked: Asked, told: Told) -> "tuple[Json, list[Json]]":
 # ---- results
 
 
-def result(asked: Asked, rules: Rules, told: Told, is_expected: Optional[bool], why: str) -> Json:
-    """The result of a run that ended so: as the list expects, otherwise, or where there is no list."""
+def results_of(asked: Asked, rules: Rules, told: Told, is_expected: Optional[bool], why: str) -> "list[Json]":
+    """The results of a program that ended so: as the list expects, otherwise, or where there is no list. A refusal has one for each of its reasons."""
     identity, sentence, level = rules.of(told, is_expected)
-    here, related = locations_of(asked, told)
-    text = "; ".join([f"{sentence} ({why})" if why else sentence, *told.hints])
-    said: Json = {"ruleId": identity, "ruleIndex": rules.places[identity], "message": {"text": text}}
-    said.update({"kind": "pass", "level": "none"} if is_expected else {"kind": "fail", "level": level})
-    return {**said, "locations": [here], **({"relatedLocations": related} if related else {})}
+    results = []
+    for reason in told.reasons or [Reason(told.line, "")]:
+        told.line = reason.line
+        here, related = locations_of(asked, told)
+        text = "; ".join(filter(None, (sentence if not results else "", reason.sentence))) + (f" ({why})" if why and not results else "")
+        said: Json = {"ruleId": identity, "ruleIndex": rules.places[identity], "message": {"text": text}}
+        said.update({"kind": "pass", "level": "none"} if is_expected else {"kind": "fail", "level": level})
+        results.append({**said, "locations": [here], **({"relatedLocations": related} if related else {})})
+    return results[:1] if is_expected else results
 
 
 def sarif_of(rules: Rules, results: "list[Json]", notes: "list[str]") -> str:
@@ -281,8 +293,8 @@ def sarif(asked: Asked, cases: "Optional[list[Case]]", why_none: str) -> str:
             shown.append((case, told))
     with tempfile.TemporaryDirectory() as room:
         find_places(asked, [told for _, told in shown], room)
-        results = [result(asked, rules, told, case.passed, "" if case.passed else case.why()) for case, told in shown]
-    return sarif_of(rules, results, [])
+        results = [results_of(asked, rules, told, case.passed, "" if case.passed else case.why()) for case, told in shown]
+    return sarif_of(rules, [one for several in results for one in several], [])
 
 
 def sarif_one(asked: Asked, told: Told) -> str:
@@ -294,4 +306,4 @@ def sarif_one(asked: Asked, told: Told) -> str:
         return sarif_of(rules, [], [])
     with tempfile.TemporaryDirectory() as room:
         find_places(asked, [told], room)
-        return sarif_of(rules, [result(asked, rules, told, None, "")], [])
+        return sarif_of(rules, results_of(asked, rules, told, None, ""), [])

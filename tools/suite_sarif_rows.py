@@ -8,7 +8,7 @@ import subprocess
 import sys
 
 from suite_places import Text, plain
-from suite_sarif import uri_of
+from suite_sarif import beside, uri_of
 
 HERE = os.path.dirname(os.path.realpath(__file__))
 SCHEMA = os.path.join(HERE, "sarif_schema.json")
@@ -52,6 +52,7 @@ SOURCES = {
     "aborts.c": b"void abort(void);\nint main(void) {\n  abort();\n}\n",
     "endless.c": b"int main(void) { for (;;) ; }\n",
     "refused.c": b"int main(void) {\n  int n = 0;\n  n = missing;\n  return n;\n}\n",
+    "twice.c": b"int main(void) {\n  int n = 0;\n  n = missing;\n  n = lost;\n  return n;\n}\n",
     "byte.c": b"int main(void) {\n  return `;\n}\n",
     "nomain.c": b"int x;\n",
     "unicode.c": "int main(void) {\n  /* \u00e4\U0001f600 */ return 1 / 0;\n}\n".encode(),
@@ -119,8 +120,7 @@ def without_headers(told: "tuple", tool) -> "tuple":
 
 def try_one(tried, tool) -> None:
     """Reports of one program, as the launcher has them told."""
-    pvrun = next((path for path in (os.path.join(os.path.dirname(tool.program), "pvrun"), os.path.join(HERE, "..", "crates", "pvrun", "out", "pvrun"))
-                  if os.access(path, os.X_OK)), "")
+    pvrun = beside(tool.program, "pvrun")
     if not pvrun:
         print("suite: without pvrun no reports of one program are tried")
         return
@@ -138,6 +138,20 @@ def try_one(tried, tool) -> None:
         log = read(f"one{number}.sarif")["runs"][0]
         tried.same(f"SARIF of one program: {source}", (0, True, 1), (done.returncode, log["invocations"][0]["executionSuccessful"], len(log["results"])))
         tried.same(f"SARIF of one program: {source}: place", (rule, file, line, columns, level), without_headers(named(log["results"][0]), tool))
+
+
+def try_reasons(tried, tool) -> None:
+    """Each reason of a refusal is a result, with what a compiler says of it."""
+    if not beside(tool.program, "pvrun"):
+        return
+    with open("list", "w", encoding="ascii") as file:
+        file.write("twice.c - - 9 exit\ntwice.c - - 9 refused\n")
+    tool.told("list", "--sarif", "twice.sarif")
+    results = read("twice.sarif")["runs"][0]["results"]
+    tried.same("SARIF: reasons", [("refused", 3, "fail"), ("refused", 4, "fail"), ("refused", 3, "pass")],
+               [(one["ruleId"], one["locations"][0]["physicalLocation"]["region"]["startLine"], one["kind"]) for one in results])
+    for one, name in zip(results, ("missing", "lost")):
+        tried.holds(f"SARIF: what gcc says of {name}", f"'{name}'", one["message"]["text"] if shutil.which("gcc") else f"'{name}'")
 
 
 def try_ends(tried, tool) -> None:
@@ -249,6 +263,7 @@ def try_sarif(tried, tool) -> None:
     try_list(tried, tool)
     if shutil.which("gcc") or shutil.which("clang"):
         try_one(tried, tool)
+    try_reasons(tried, tool)
     try_ends(tried, tool)
     try_rules(tried)
     try_schema(tried)
