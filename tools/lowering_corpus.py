@@ -20,17 +20,18 @@ TURNS = "3000000"
 def text_of(source, room):
     """The file preprocessed, and lowered, or None where the preprocessor refuses it; and what the rules said."""
     plain, lowered = os.path.join(room, "plain.i"), os.path.join(room, "lowered.i")
-    if call([f"{HERE}/preprocess", source, plain, "-D__pv_lower", "--drop", "volatile", "--drop", "restrict"]).returncode:
-        return None, None, ""
-    done = call([f"{HERE}/lower", plain, lowered, "--name", os.path.basename(source)])
-    return plain, lowered, done.stderr.decode("latin1")
+    words = ["-I", f"{HERE}/csmith", "--drop", "volatile", "--drop", "restrict"]
+    call([f"{HERE}/preprocess", source, plain] + words)
+    done = call([f"{HERE}/preprocess", source, lowered] + words + ["--lower"])
+    return plain, lowered if done.returncode == 0 else None, done.stderr.decode("latin1")
 
 
 def reference(source, room):
     """What gcc's program writes, and its status; and whether the file is C17."""
     program = os.path.join(room, "program")
-    strict = call(["gcc", "-std=c17", "-pedantic-errors", "-w", "-fsyntax-only", source]).returncode == 0
-    if call(["gcc", "-std=gnu17", "-w", "-O0", "-o", program, source, "-lm"]).returncode:
+    csmith = ["-I", f"{HERE}/csmith"]
+    strict = call(["gcc", "-std=c17", "-pedantic-errors", "-fsyntax-only", source] + csmith).returncode == 0
+    if call(["gcc", "-std=gnu17", "-w", "-O0", "-o", program, source, "-lm"] + csmith).returncode:
         return None, strict
     try:
         done = subprocess.run([program], stdin=subprocess.DEVNULL, stdout=subprocess.PIPE, stderr=subprocess.STDOUT, timeout=10, cwd=room)
@@ -44,7 +45,7 @@ def row(program, source):
     try:
         wanted, strict = reference(source, room)
         plain, lowered, notes = text_of(source, room)
-        if plain is None:
+        if lowered is None:
             return source, strict, "no text", "no text", "", ""
         before = call([program, "check", plain]).stdout.decode().split(" ")[0]
         after = call([program, "check", lowered]).stdout.decode().split(" ")[0].strip()
