@@ -6,7 +6,7 @@ Each program says in its first lines, which begin with `//!`, what is wanted of 
   fault VERDICT        the report, without its turn: it was written down from C17 before the rule was run
   said TEXT            standard output before the fault, with \\n for line feeds
   defined              output and status are those of gcc and clang at -O0 and -O2
-  args WORD..          behind --args
+  args WORD..          after --args
 """
 import glob
 import os

@@ -27,7 +27,7 @@ read_words() {
   [ $# -le 2 ] || read_options "${@:3}"
   [ -z "$leaks" ] || [ -z "$quiet" ] || [ -n "$slip" ] || slip='--leaks says words, and --quiet wants none'
   [ -z "$raw" ] || [ "${#lowering[@]}" = 0 ] || slip='--lower reads what was preprocessed, so it goes not with --raw'
-  # (they stand behind all other options of preprocessing)
+  # (they stand after all other options of preprocessing)
   [ "${#lowering[@]}" = 0 ] || { changes+=(--lower ${quiet:+--quiet} "${lowering[@]:1}") && export PV_LOWERED=yes; }
 }
 
@@ -42,7 +42,7 @@ read_options() {
       *--report | *--keep | *--drop | *--input | *-[IDU]) ;;
       *--lower) lowering=(--lower) && shift && continue ;;
       run--args | settle--args)
-        [ "${#lowering[@]}" -gt 0 ] || slip='--args hands arguments to a main that --lower writes out, and stands last, behind --lower'
+        [ "${#lowering[@]}" -gt 0 ] || slip='--args hands arguments to a main that --lower writes out, and stands last, after --lower'
         lowering+=("$@")
         return
         ;;

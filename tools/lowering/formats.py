@@ -36,7 +36,7 @@ def quoted(characters):
 
 
 class Conversion:
-    """One conversion, and its arguments: their numbers among those behind the format."""
+    """One conversion, and its arguments: their numbers among those after the format."""
 
     def __init__(self, found, at):
         self.text = found[0]

@@ -5,7 +5,7 @@ and loop is a block, and so is its statement, with braces or without. So an obje
 literal stands it is given its value anew, each time (6.2.4p6), by a function that makes the value as an initializer does (6.7.9). A literal
 whose value alone is needed is that function's call. Values stand where they stood, as the function's arguments, converted to their members'
 types in their lines. Exact where no value has a side effect (6.8p4: a literal's initializer is no full expression, but here a sequence point
-comes behind it), since all accesses stay unsequenced towards those of the other operands.
+comes after it), since all accesses stay unsequenced towards those of the other operands.
 Left: a value with a side effect; a pointer that a call gives, or beside a call (as an argument it is read once more, which 6.2.4p2 makes a
 use); a const literal in a block whose values are no constants; types that the file scope doesn't see; what `initializers` leaves.
 """

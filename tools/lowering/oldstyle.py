@@ -55,7 +55,7 @@ def check_calls(text, name, parameters, is_old):
 
 
 def is_old_definition(text, function):
-    """Whether the parameters' types stand behind the closing parenthesis."""
+    """Whether the parameters' types stand after the closing parenthesis."""
     return any(token == ";" for _, token in text.tokens(function["loc"]["offset"], body_of(function)["b"]))
 
 

@@ -46,7 +46,7 @@ class Semicolons:
 
 
 class FunctionNames:
-    """C17 6.4.2.2p1: `__func__` is declared as `static const char __func__[] = "name";` behind the opening brace of the function. So it is,
+    """C17 6.4.2.2p1: `__func__` is declared as `static const char __func__[] = "name";` after the opening brace of the function. So it is,
     by another name, in functions that use it."""
 
     NAME = "__func__"
@@ -78,9 +78,8 @@ class Switches:
 
 
 class Spellings:
-    """Words that GNU C spells in another way, and words that mean nothing to a run: `register` (6.7.1p6: a hint), `_Noreturn` (6.7.4p8: a
-    function that returns nevertheless is undefined; so left where its body's end may be reached), `inline` with static or extern
-    (6.7.4p6: a hint). Left: `inline` alone (6.7.4p7: it defines no function for other calls), `typeof` of an expression."""
+    """Words that GNU C spells in another way, `register` (6.7.1p6: a hint), and `inline` with static or extern (6.7.4p6: a hint). Left:
+    `inline` alone (6.7.4p7: it defines no function for other calls), `typeof` of an expression."""
 
     NAME = "spellings"
     WORDS = {"__extension__": "", "__const": "const", "__const__": "const", "__signed": "signed", "__signed__": "signed",

@@ -1,7 +1,7 @@
 """A preprocessed text that is written out anew: its places, its lines, clang's tree of it, and edits.
 
 Clang is the only reader: its tree says where each form begins and ends, and of which type it is. Whatever no edit names stays byte
-for byte. A piece of the text that is moved, or that stands behind something written, is brought to the line that it had (by line feeds, or
+for byte. A piece of the text that is moved, or that stands after something written, is brought to the line that it had (by line feeds, or
 by a line marker), so that every token keeps its file and line.
 """
 import bisect
@@ -115,14 +115,14 @@ class Text:
         return self.text[node["b"]:node["e"]]
 
     def past(self, node, mark=";"):
-        """The place behind the `;` that comes behind a node."""
+        """The place after the `;` that comes after a node."""
         found = re.compile(r"(?:\s|/\*.*?\*/|//[^\n]*|^[ \t]*#[^\n]*)*" + re.escape(mark), re.S | re.M).match(self.text, node["e"])
         if not found:
             raise Left(node["b"], "it does not end with '%s'" % mark)
         return found.end()
 
     def end_of(self, statement):
-        """The place behind a statement, its `;` with it."""
+        """The place after a statement, its `;` with it."""
         kind = statement["kind"]
         if kind in ("CompoundStmt", "DeclStmt", "NullStmt"):
             return statement["e"]

@@ -1,6 +1,6 @@
 """The program's own functions with `...`, and vprintf, vsprintf, vsnprintf.
 
-C17 6.5.2.2p6, p7, 7.16: the arguments behind the last parameter are promoted and handed over; va_arg gives one after the other. They are handed
+C17 6.5.2.2p6, p7, 7.16: the arguments after the last parameter are promoted and handed over; va_arg gives one after the other. They are handed
 over in a structure here, which a function makes of them: it stands where they stood, so they keep lines, order and sequencing, and pointers are
 copied by memcpy, which is no use of them. A va_list is such a structure, of which va_arg takes the next value. 7.21.6.1p9: what vprintf and its
 like do with a format that the run has is done by a function in the call's line, which knows each argument's type.
