@@ -1,4 +1,5 @@
 # For tools/explain-fault: what a fault means in the words of the library, beside those of the report.
+# shellcheck shell=bash disable=SC2154  # (variables of pvrun)
 
 # Why a fault within a function of the headers is one, by the clause of the function's own section.
 tell_library() { LC_ALL=C awk -f "$here/library.awk" "$here/clauses.txt" "$room/story" "$1" >&2; }

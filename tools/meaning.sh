@@ -1,4 +1,5 @@
 # For ./pvrun: what is said in words on standard error behind the program's answer, which stands as it is.
+# shellcheck shell=bash disable=SC1091,SC2034,SC2086,SC2154  # (variables of pvrun)
 
 # Behind a refusal: where it is, and hints of what is refused.
 show_place() {

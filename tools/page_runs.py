@@ -205,7 +205,9 @@ class Question:
         lines = bytes(self.caller.call(words)[1].bytes).splitlines()
         more = next((number for number, line in enumerate(lines) if number and PLACE.fullmatch(line)), len(lines))
         others = [line.decode("utf-8", "replace") for line in lines[more:] if PLACE.fullmatch(line) or line.startswith(b"pvrun: hint: ")]
-        return b"\n".join(lines[:more]) or proved, [line.removeprefix("pvrun: ") for line in others]
+        first = PLACE.fullmatch(lines[0]) if lines else None
+        others = ([first[5].decode("utf-8", "replace")] if first else []) + [line.removeprefix("pvrun: ") for line in others]
+        return b"\n".join(lines[:more]) or proved, others
 
     def fault(self, status: int) -> bytes:
         """The words of tools/explain-fault. (Of a shut source no file is read that a line marker names.)"""

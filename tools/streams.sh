@@ -1,5 +1,6 @@
 # For ./pvrun: what a program writes to stderr by name goes to standard error, or to the file of --stderr. The headers put such a piece between marks
 # (include/pv_error.h), and tools/streams.awk takes them out.
+# shellcheck shell=bash disable=SC2154  # (variables of pvrun)
 
 # The digits of the marks of the text, in `mark`; nothing where it has none.
 find_mark() {
