@@ -6,13 +6,17 @@ from typing import Iterator, NamedTuple
 
 # The calls whose contracts are the promises of the programs. A law is a public function without a body's work.
 TOPS = {
-    "pv_serve": ("serve", "serve_calmly"),
+    "pv_serve": ("serve", "serve_calmly", "serve_shipped"),
     "pv_explain": ("new",),
     "pvwhere": ("locate", "locate_calmly"),
     "pv_suite": ("suite", "suite_calmly"),
     "pv_replay": ("replay", "replay_calmly"),
     "pv_step": ("step", "step_calmly"),
+    "pv_values": ("state_text", "type_name"),
 }
+
+# Calls of the libraries that programs of others may rest on; what they promise beyond those is counted by itself.
+CALLED = {"pv_exec": ("run",), "pv_serve": ("judge", "check")}
 
 USE = re.compile(r"^(?:ghost )?(?:pub )?use Rattle\.(\w+)\.specs\.([\w.]+)\.\{([^}]*)\}", re.M)
 USE_FILE = re.compile(r"^(?:ghost )?use Rattle\.(\w+)\.specs\.([\w.]+) as (\w+)", re.M)
@@ -94,8 +98,8 @@ class Specs:
                     left.append(other)
         return seen
 
-    def promised(self) -> set[Name]:
-        """Returns the definitions that the contracts of the top calls and of the laws name."""
+    def promised(self, calls: dict[str, tuple[str, ...]] | None = None) -> set[Name]:
+        """Returns the definitions that the contracts of the top calls and of the laws name, or those of these calls alone."""
         first = set()
         for crate in self.crates:
             for at, _, files in os.walk(f"{self.top}/crates/{crate}/src"):
@@ -104,7 +108,7 @@ class Specs:
                         text = it.read()
                     brought = imports(text)
                     for call, contract, is_law in contracts(text):
-                        if call in TOPS.get(crate, ()) or is_law:
+                        if call in (TOPS if calls is None else calls).get(crate, ()) or (is_law and calls is None):
                             found = [brought.get(it) or qualified(brought, it) for it in words_of(contract)]
                             first |= {self.named(*it) for it in found if it} - {None}
         return first

@@ -208,6 +208,12 @@ def test_ends(tool, room):
         with open(f"{room}/{name}/within/file", "w", encoding="utf-8") as file:
             file.write(text)
     yield "the same text, and another", tool.is_same(f"{room}/one", f"{room}/same") and not tool.is_same(f"{room}/one", f"{room}/other")
+    os.makedirs(f"{room}/kept/wrong-bodies")
+    os.makedirs(f"{room}/kept/src")
+    for name, text in (("src/a.rt", "one\ntwo\n"), ("wrong-bodies/fits.edit", "file: src/a.rt\nold: one\nnew: two\n"), ("wrong-bodies/gone.edit", "file: src/a.rt\nold: six\nnew: two\n")):
+        with open(f"{room}/kept/{name}", "w", encoding="utf-8") as file:
+            file.write(text)
+    yield "edits that fit, and that don't", [bool(why) for _, why in tool.applied(f"{room}/kept")] == [False, True]
     ran = subprocess.run([sys.executable, f"{tool.HERE}/wrong-bodies", "no_such_crate"], capture_output=True, text=True)
     yield "a crate that is not there", ran.returncode == 1 and "there is no crate" in ran.stderr
 

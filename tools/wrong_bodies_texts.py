@@ -75,6 +75,18 @@ def edited(edit, folder, texts=None):
     return texts
 
 
+def applied(folder):
+    """Yields the path of each edit of a crate, and why it can't be applied to the crate's text, or nothing."""
+    for kind in ("must-fail", "wrong-bodies"):
+        edits = os.listdir(f"{folder}/{kind}") if os.path.isdir(f"{folder}/{kind}") else []
+        for name in sorted(edits):
+            try:
+                edited(f"{folder}/{kind}/{name}", folder)
+                yield f"{kind}/{name}", ""
+            except (BadEdit, OSError, UnicodeDecodeError) as why:
+                yield f"{kind}/{name}", str(why)
+
+
 def cycle_above(text, at):
     """Returns the cycle of calls that an attribute above a function names, if one does."""
     for line in reversed(text[:at].split("\n")[:-1]):

@@ -15,8 +15,9 @@ use Rattle.pv_seq.specs.Rivals.{top}
 use Rattle.pv_world.specs.Worlds.{Worth}
 use Rattle.pv_eval.specs.States.{Setting, State, then_do}
 use Rattle.pv_eval.specs.Sequenced.{operand}
-use Rattle.pv_eval.specs.Steps.{Calling, accepted_value}
-use Rattle.pv_eval.specs.Evaluation.{ev, ev_call}
+use Rattle.pv_eval.specs.Steps.{Calling}
+use Rattle.pv_eval.specs.OfRuns.{accepted_value, ev_call}
+use Rattle.pv_eval.specs.Evaluation.{ev_by, ev}
 use Rattle.std.proofs.Common.{Vec, Global}
 use Rattle.pv_world.specs.declared.got.Got.{Got}
 use Rattle.pv_eval.specs.declared.failure.Failure.{Failure}
@@ -54,7 +55,7 @@ module _ (b : Setting) (call : Calling) (u : Stored) (n : NodeId) (line f i : �
   xs = arguments_in (nodes u) (list_at u l)
 
   pub next-one : (j : Open) (s : State) → form_of (expression_at u n) ≡ Call f xs → line ≡ line_of (expression_at u n) → i < length ids → operand (ev b call (expression_at u (slice_index_or ids i none))) j s (frame_after b call u (record { node = n; stage = Argument got })) ≡ ev_call b call line f (map worth_of got.items) (arguments_from xs (length got.items)) j s
-  unfolding frame_after ev
+  unfolding frame_after ev_by
   next-one j s form is lt =
       let m : ℕ = length got.items in
       let lt' : m < length (list_at u l) = subst (λ z. m < length z) same (subst (λ k. k < length ids) count lt) in

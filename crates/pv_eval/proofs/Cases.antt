@@ -19,7 +19,8 @@ use Rattle.pv_world.specs.Worlds.{Worth}
 use Rattle.pv_eval.specs.States.{Setting, State, Res, Gives, Stops, Turns, then_do, spend}
 use Rattle.pv_eval.specs.Sequenced.{Given, node_value, operand}
 use Rattle.pv_eval.specs.Steps.{Calling, takes, tick_if}
-use Rattle.pv_eval.specs.Evaluation.{ev, ev_form}
+use Rattle.pv_eval.specs.Evaluation.{ev_by, ev}
+use Rattle.pv_eval.specs.OfRuns.{ev_form}
 use Rattle.pv_world.specs.declared.got.Got.{Got}
 use Rattle.pv_eval.specs.declared.failure.Failure.{Failure}
 use Rattle.pv_eval.specs.declared.failure.Failure.TheVariants as failure
@@ -48,7 +49,7 @@ module _ (b : Setting) (call : Calling) (t : Ty) (line : ℕ) (ls : List (List N
   BeginsIf x (Some a) = Begins x a
 
   pub begins-if : (x : Typed) → BeginsIf x (first_operand_of x)
-  unfolding ev
+  unfolding ev_by
   begins-if (typed.Subscript a d) = refl
   begins-if (typed.Member a k) = refl
   begins-if (typed.MemberOfValue a k) = refl
@@ -108,7 +109,7 @@ module _ (b : Setting) (call : Calling) (t : Ty) (line : ℕ) (ls : List (List N
 -- a node that takes a turn takes it first; one that takes none goes on at once
 module _ (b : Setting) (call : Calling) (fs : List Access) where
   pub ev-node : (x : TypedTree) (s : State) → ev b call x fs s ≡ tick_if (takes (takes_turn x) (form_of x)) b s (ev_form b call (type_of x) (line_of x) (form_of x) fs)
-  unfolding ev
+  unfolding ev_by
   ev-node (Node t line turn x) s = refl
 
   pub ev-turn : (x : TypedTree) (s : State) → takes (takes_turn x) (form_of x) ≡ true → s.taken < b.bound → ev b call x fs s ≡ ev_form b call (type_of x) (line_of x) (form_of x) fs (spend s)

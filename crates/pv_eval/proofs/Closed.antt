@@ -22,10 +22,11 @@ use Rattle.pv_num.specs.Kinds.{promotion_of}
 use Rattle.pv_eval.specs.Conversions.{how_to}
 use Rattle.pv_eval.specs.Accesses.{access_to}
 use Rattle.pv_eval.specs.Operations.{Op, Converts, Calculates, CalculatesOne, Tests, Negates, Accepts, Moves, Subtracts, Orders, Equals, Follows, Selects, TakesPart, Reads, Writes, NamesObject, NamesLiteral, NamesFunction, Finds, Puts, Asks, act}
-use Rattle.pv_eval.specs.Sequenced.{Given, with_given, node_value, work, operand, later_operand}
-use Rattle.pv_eval.specs.Steps.{Calling, with_conversion, accepted_value, reading, writing, source_of, is_unequal, is_minus, is_down, is_after, combining, stepping}
+use Rattle.pv_eval.specs.Sequenced.{Given, with_given, node_value, operand, later_operand}
+use Rattle.pv_eval.specs.OfRuns.{work, with_conversion, accepted_value, reading, writing, combining, stepping, ev_call, ev_through, ev_ask}
+use Rattle.pv_eval.specs.Steps.{Calling, source_of, is_unequal, is_minus, is_down, is_after}
 use Rattle.pv_eval.specs.Arguments.{argument}
-use Rattle.pv_eval.specs.Evaluation.{ev, ev_call, ev_through, ev_ask}
+use Rattle.pv_eval.specs.Evaluation.{ev_by, ev}
 use Rattle.pv_eval.specs.CalleeParts.{function_in}
 
 -- a relation on pieces of two runs, with the room before and after: more than the turns that may still be taken
@@ -98,7 +99,7 @@ module _ (b : Setting) (n : ℕ) (sides : Option (List Bool)) {R : Relation} (w 
 
   module _ (k : ℕ) (call call' : Calling) (h : (f : ℕ) (vs : List Worth) (line : ℕ) → R k k Worth (call f vs line) (call' f vs line)) where
     mutual
-      unfolding ev
+      unfolding ev_by
 
       -- every expression takes a turn
       pub ev-closed : (x : TypedTree) (fs : List Access) → R (suc k) k Given (ev b call x fs) (ev c call' x fs)

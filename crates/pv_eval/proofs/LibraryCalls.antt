@@ -20,8 +20,9 @@ use Rattle.pv_world.specs.Coming.{worth_of}
 use Rattle.pv_eval.specs.States.{Setting, State, then_do}
 use Rattle.pv_eval.specs.Sequenced.{operand}
 use Rattle.pv_eval.specs.Arguments.{argument}
-use Rattle.pv_eval.specs.Steps.{Calling, accepted_value}
-use Rattle.pv_eval.specs.Evaluation.{ev, ev_ask}
+use Rattle.pv_eval.specs.Steps.{Calling}
+use Rattle.pv_eval.specs.OfRuns.{accepted_value, ev_ask}
+use Rattle.pv_eval.specs.Evaluation.{ev_by, ev}
 use Rattle.pv_eval.specs.declared.failure.Failure.{Failure}
 use Rattle.pv_eval.specs.declared.frames.Move.{Move}
 use Rattle.pv_eval.specs.declared.frames.Stage.TheVariants.{Argument}
@@ -65,7 +66,7 @@ module _ (b : Setting) (call : Calling) (u : Stored) (n : NodeId) (line i : ℕ)
 
   -- the next argument
   pub next-asked : (j : Open) (s : State) → form_of (expression_at u n) ≡ LibraryCall f xs → line ≡ line_of (expression_at u n) → i < length ids → operand (ev b call (expression_at u (slice_index_or ids i none))) j s (frame_after b call u (record { node = n; stage = Argument got })) ≡ ev_ask b call line f (asked_with xs gots) (arguments_from xs (length got.items)) j s
-  unfolding frame_after ev
+  unfolding frame_after ev_by
   next-asked j s form is lt =
       let m : ℕ = length got.items in
       let one : suc m ≡ m + 1 = omega arith in

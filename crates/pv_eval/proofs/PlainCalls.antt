@@ -19,8 +19,9 @@ use Rattle.pv_eval.specs.declared.frames.Now.{Now}
 use Rattle.pv_eval.specs.declared.frames.Now.TheVariants.{Due, Asked}
 use Rattle.pv_eval.specs.States.{Setting, State, Res, Gives, Stops, Turns, then_do}
 use Rattle.pv_eval.specs.Sequenced.{Given, with_given, node_value}
-use Rattle.pv_eval.specs.Steps.{Calling, accepted_value}
-use Rattle.pv_eval.specs.Evaluation.{ev, ev_call}
+use Rattle.pv_eval.specs.Steps.{Calling}
+use Rattle.pv_eval.specs.OfRuns.{accepted_value, ev_call}
+use Rattle.pv_eval.specs.Evaluation.{ev_by, ev}
 use Rattle.pv_eval.specs.Stack.{rest}
 use Rattle.pv_eval.specs.Frames.{after, arguments_from}
 use Rattle.pv_eval.specs.Ahead.{ahead, stack}
@@ -35,7 +36,7 @@ same_turns j k e = cc
 
 -- a call whose turn was taken
 pub comes_first : (u : Stored) (w : World) (x : TypedTree) (f : ℕ) (xs : Arguments) (k : ℕ) → form_of x ≡ Call f xs → ComesToArguments u w x f [] xs [] k (k + 1)
-unfolding ev
+unfolding ev_by
 comes_first u w x f xs k form = record {
   only = tt;
   gives = λ call bound sides zap fs out es hf room.
@@ -49,7 +50,7 @@ comes_first u w x f xs k form = record {
 -- one argument more
 module _ (u : Stored) (w : World) (tree : TypedTree) (f : ℕ) (got : List Worth) (x : TypedTree) (xs : Arguments) (all : List Access) (from at : ℕ) where
   pub comes_on : (behind : ℕ) (v : Worth) (now : List Access) → ComesToArguments u w tree f got (MoreArguments x xs) all from at → HandsNoting u w x at behind v all now → ComesToArguments u w tree f (got ++ v ∷ []) xs now from behind
-  unfolding ev
+  unfolding ev_by
   comes_on behind v now h g = record {
     only = subst AreReads (sym g.noted) (reads_both all g.yields.accesses h.only g.yields.only);
     gives = λ call bound sides zap fs out es hf room.
@@ -100,7 +101,7 @@ module _ (u : Stored) (w : World) (f : ℕ) (ids : List NodeId) where
 -- a call that has its arguments is made
 module _ (u : Stored) (n : NodeId) (f : ℕ) (got : List Worth) (all : List Access) (k : ℕ) (old : Moment) where
   pub calls_among : ComesToArguments u old.world (expression_at u n) f got NoArguments all old.taken k → CallsAmong u n f got all old (record old { taken = k })
-  unfolding ev
+  unfolding ev_by
   calls_among h = λ b out es hs hl call fs reads room.
       let x : TypedTree = expression_at u n in
       let s : State = state_of old out es in

@@ -31,7 +31,8 @@ use Rattle.pv_eval.specs.Sizes.{points}
 use Rattle.pv_eval.specs.Conversions.{how_to}
 use Rattle.pv_world.specs.Suiting.{is_small}
 use Rattle.pv_eval.specs.States.{Setting, State, Gives}
-use Rattle.pv_eval.specs.Steps.{with_conversion, is_minus}
+use Rattle.pv_eval.specs.Steps.{is_minus}
+use Rattle.pv_eval.specs.OfRuns.{with_conversion}
 use Rattle.pv_eval.specs.Ahead.{first_operand_of}
 use Rattle.pv_eval.specs.Operations.{Converts, Moves, Selects}
 use Rattle.pv_eval.specs.Plainly.{Yields, YieldsNoting, AlwaysGives, GivesAt, GivesNoting, IsConverted, form_by, state_with, found_worth}

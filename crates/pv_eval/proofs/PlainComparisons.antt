@@ -23,8 +23,9 @@ use Rattle.pv_world.specs.Pointers.{equals, equal_by as equal_of}
 use Rattle.pv_eval.specs.States.{then_do}
 use Rattle.pv_world.specs.Suiting.{knows}
 use Rattle.pv_eval.specs.Operations.{Equals, Negates, Tests, does}
-use Rattle.pv_eval.specs.Sequenced.{node_value, work}
-use Rattle.pv_eval.specs.Steps.{with_conversion, is_unequal}
+use Rattle.pv_eval.specs.Sequenced.{node_value}
+use Rattle.pv_eval.specs.OfRuns.{work, with_conversion}
+use Rattle.pv_eval.specs.Steps.{is_unequal}
 use Rattle.pv_eval.specs.declared.plain.Found.{Found}
 use Rattle.pv_eval.specs.Plainly.{setting_by, state_with, has_read, GivesAt, GivesWithBoth, IsConverted, IsLooked, found_worth}
 use Rattle.pv_world.proofs.Guards.{both_of}

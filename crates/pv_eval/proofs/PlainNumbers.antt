@@ -36,9 +36,9 @@ use Rattle.pv_eval.specs.declared.marked.Marked.{Marked}
 use Rattle.pv_eval.specs.States.{Setting, Gives, then_do}
 use Rattle.pv_eval.specs.Acting.{after_telling, pair_count, by_side, answer_with_sides, after_doing}
 use Rattle.pv_eval.specs.Operations.{Op, Converts, Calculates, CalculatesOne, Negates, Follows, Selects, NamesObject, does, act}
-use Rattle.pv_eval.specs.Sequenced.{node_value, work}
-use Rattle.pv_eval.specs.Steps.{with_conversion}
-use Rattle.pv_eval.specs.Evaluation.{ev}
+use Rattle.pv_eval.specs.Sequenced.{node_value}
+use Rattle.pv_eval.specs.OfRuns.{work, with_conversion}
+use Rattle.pv_eval.specs.Evaluation.{ev_by, ev}
 use Rattle.pv_eval.specs.TypeForms.{kind_of, shape_of, pointed_to}
 use Rattle.pv_types.specs.Sorts.{is_void as is_none}
 use Rattle.pv_eval.specs.Conversions.{how_to_int, how_by, how_to}
@@ -195,7 +195,7 @@ gives_calculated u w t op a d k x y left right v hx hy e h = record {
 
 -- nodes without operands, of what may have been found
 pub constant_some : (u : Stored) (w : World) (x : Typed) (k : ℤ) (r : Option Found) → x ≡ typed.Constant k → IfSome r (λ v. found_worth v ≡ int k) → IfSome r (λ v. GivesAlone u w x (found_worth v))
-unfolding ev
+unfolding ev_by
 constant_some u w x k None is h = tt
 constant_some u w x k (Some v) is h = subst (λ y. GivesAlone u w y (found_worth v)) (sym is) (record {
   turns = λ turn. refl;
@@ -204,7 +204,7 @@ constant_some u w x k (Some v) is h = subst (λ y. GivesAlone u w y (found_worth
 })
 
 pub size_some : (u : Stored) (w : World) (x : Typed) (k : ℕ) (r : Option Found) → x ≡ typed.Sizeof k → IfSome r (λ v. found_worth v ≡ int (pos k)) → IfSome r (λ v. GivesAlone u w x (found_worth v))
-unfolding ev
+unfolding ev_by
 size_some u w x k None is h = tt
 size_some u w x k (Some v) is h = subst (λ y. GivesAlone u w y (found_worth v)) (sym is) (record {
   turns = λ turn. refl;
@@ -214,7 +214,7 @@ size_some u w x k (Some v) is h = subst (λ y. GivesAlone u w y (found_worth v))
 
 pub object_some : (u : Stored) (w : World) (x : Typed) (o : ℕ) (lasting : Bool) (r : Option Found) → x ≡ typed.Object o → (object_at (whole_unit u) o).lasting ≡ lasting
     → IfSome r (λ v. found_worth v ≡ pointer (address_of w (instance_of w o lasting))) → IfSome r (λ v. GivesAlone u w x (found_worth v))
-unfolding ev
+unfolding ev_by
 object_some u w x o lasting None is same h = tt
 object_some u w x o lasting (Some v) is same h = subst (λ y. GivesAlone u w y (found_worth v)) (sym is) (record {
   turns = λ turn. refl;

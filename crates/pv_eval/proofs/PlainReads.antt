@@ -33,7 +33,8 @@ use Rattle.pv_object.specs.Access.{fault, reach_after, checked_in, or_stop, read
 use Rattle.pv_object.specs.OperationParts.{write_stop}
 use Rattle.pv_shadow.specs.Whole.{number_in}
 use Rattle.pv_object.specs.Loading.{is_trap, integer_of, exposed_by}
-use Rattle.pv_types.specs.Ty.{Ty}
+use Rattle.pv_types.specs.Ty.{Ty, VoidTy, IntTy, PointerTo, ArrayOf, StructTag, UnionTag, FunctionTy, ConstOf}
+use Rattle.pv_types.specs.Sorts.{bare_type}
 use Rattle.pv_tree.specs.declared.nodes.NodeId.{NodeId}
 use Rattle.pv_typed.specs.declared.nodes.Typed.TheVariants as typed
 use Rattle.pv_typed.specs.TypedTree.{type_of}
@@ -49,13 +50,13 @@ use Rattle.pv_world.specs.Telling.{no_telling, telling, uses, range_test, each_p
 use Rattle.pv_world.specs.Doing.{Answers, Fails}
 use Rattle.pv_world.specs.Accesses.{reaching_by, scalar_by, worth_in}
 use Rattle.pv_world.specs.AccessParts.{range_use}
-use Rattle.pv_eval.specs.States.{then_do}
+use Rattle.pv_eval.specs.States.{Setting, then_do}
 use Rattle.pv_eval.specs.TypeForms.{Lvalue, lvalue, shape_of}
 use Rattle.pv_eval.specs.Sizes.{setting_of, size_in}
 use Rattle.pv_world.specs.Suiting.{knows}
 use Rattle.pv_eval.specs.Permission.{permits}
 use Rattle.pv_eval.specs.Accesses.{access_to, reads_permitted, reads_at, reads}
-use Rattle.pv_eval.specs.Operations.{Reads}
+use Rattle.pv_eval.specs.Operations.{Reads, does}
 use Rattle.pv_eval.specs.Sequenced.{node_value}
 use Rattle.pv_eval.specs.declared.plain.Found.{Found}
 use Rattle.pv_eval.specs.Plainly.{setting_by, AreReads, has_read, GivesReading, GivesNoting, ReadsFrom, alone_tried, HasReached, IsPlainNumber, found_worth}
@@ -227,6 +228,21 @@ read_some u w t k p spot size align m z (Some q) form fits es ea reached permitt
     permitted all (subst (λ (n : ℕ). IsPlainNumber (bytes_from w.memory.bytes spot.address n) m) es is) trap value)
 
 -- a node that reads it
+-- 6.3.2.1p2: what an lvalue is, and what is read through it, doesn't ask for the qualifiers of its type
+lvalue_bare : (b : Setting) (t : Ty) → lvalue b (bare_type t) ≡ lvalue b t
+lvalue_bare b (ConstOf t) = lvalue_bare b t
+lvalue_bare b VoidTy = refl
+lvalue_bare b (IntTy k) = refl
+lvalue_bare b (PointerTo t) = refl
+lvalue_bare b (ArrayOf t n) = refl
+lvalue_bare b (StructTag n) = refl
+lvalue_bare b (UnionTag n) = refl
+lvalue_bare b (FunctionTy t ts v) = refl
+
+pub reads_bare : (u : Stored) (w : World) (t : Ty) (p : Pointer) (v : Worth) → ReadsFrom u w (bare_type t) p v → ReadsFrom u w t p v
+reads_bare u w t p v h = λ bound sides zap others only.
+    ap (λ l. does (setting_by u bound sides zap) (Reads l (pointer p) others) w) (sym (lvalue_bare (setting_by u bound sides zap) t)) ∙ h bound sides zap others only
+
 pub read_given : (u : Stored) (w : World) (t : Ty) (a : NodeId) (p : Pointer) (v : Worth) → ReadsFrom u w (type_of (expression_at u a)) p v → GivesReading u w t (typed.Read a) (pointer p) v
 read_given u w t a p v h = record {
   own = access_to (lvalue (setting_of u) (type_of (expression_at u a))) p false;

@@ -15,7 +15,8 @@ use Rattle.pv_eval.specs.declared.marked.Marked.{Marked}
 use Rattle.pv_eval.specs.States.{Setting, State, Res, Stops, Turns, then_do, spend}
 use Rattle.pv_eval.specs.Sequenced.{Given, with_given, operand}
 use Rattle.pv_eval.specs.Steps.{Calling, takes, tick_if}
-use Rattle.pv_eval.specs.Evaluation.{ev, ev_form}
+use Rattle.pv_eval.specs.Evaluation.{ev}
+use Rattle.pv_eval.specs.OfRuns.{ev_form}
 use Rattle.pv_eval.specs.Frames.{first_after, second_after}
 use Rattle.pv_eval.specs.Ahead.{first_operand_of, second_operand_of}
 use Rattle.pv_eval.specs.Plainly.{setting_by, state_with, AreReads, has_read, OnlyReads, Yields, form_by, turns_at, GivesAlone, GivesWith, GivesReading, GivesWithBoth, YieldsNoting, GivesNoting, found_worth}

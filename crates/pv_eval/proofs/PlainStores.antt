@@ -35,7 +35,8 @@ use Rattle.pv_eval.specs.Permission.{permits}
 use Rattle.pv_eval.specs.Accesses.{access_to, writes_permitted, writes_at, writes_to, writes}
 use Rattle.pv_eval.specs.Operations.{Op, Writes, does, act}
 use Rattle.pv_eval.specs.Sequenced.{Given, with_given, node_value, operand}
-use Rattle.pv_eval.specs.Steps.{Calling, source_of, writing}
+use Rattle.pv_eval.specs.Steps.{Calling, source_of}
+use Rattle.pv_eval.specs.OfRuns.{writing}
 use Rattle.pv_eval.specs.Evaluation.{ev}
 use Rattle.pv_eval.specs.Frames.{first_after, second_after}
 use Rattle.pv_eval.specs.Plainly.{setting_by, state_with, AreReads, has_read, Yields, form_by, GivesValue, whole_turns, Performs, WritesTo, StoresAt, IsConverted, HasReached, found_worth}

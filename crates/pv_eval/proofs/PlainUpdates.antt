@@ -31,8 +31,9 @@ use Rattle.pv_eval.specs.Sizes.{setting_of}
 use Rattle.pv_eval.specs.Accesses.{access_to}
 use Rattle.pv_eval.specs.Operations.{Converts, Calculates, Moves, Reads, Writes, does, act}
 use Rattle.pv_eval.specs.Sequenced.{node_value, operand}
-use Rattle.pv_eval.specs.Steps.{Calling, takes, with_conversion, reading, writing, is_minus, is_down, is_after, combining, stepping}
-use Rattle.pv_eval.specs.Evaluation.{ev, ev_form}
+use Rattle.pv_eval.specs.Steps.{Calling, takes, is_minus, is_down, is_after}
+use Rattle.pv_eval.specs.OfRuns.{with_conversion, reading, writing, combining, stepping, ev_form}
+use Rattle.pv_eval.specs.Evaluation.{ev}
 use Rattle.pv_eval.specs.Frames.{first_after, both_after}
 use Rattle.pv_eval.specs.Ahead.{first_operand_of}
 use Rattle.pv_eval.specs.Plainly.{setting_by, state_with, has_read, Yields, form_by, GivesValue, whole_turns, Performs, AlwaysGives, GivesAt, IsConverted, ReadsFrom, StoresAt, StepsTo, CombinesTo}

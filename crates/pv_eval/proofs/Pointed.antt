@@ -20,8 +20,9 @@ use Rattle.pv_eval.specs.CalleeParts.{function_in}
 use Rattle.pv_eval.specs.Moments.{Called, by_number}
 use Rattle.pv_eval.specs.TypeForms.{pointed_to}
 use Rattle.pv_eval.specs.Sequenced.{Given, node_value, operand}
-use Rattle.pv_eval.specs.Steps.{Calling, accepted_value}
-use Rattle.pv_eval.specs.Evaluation.{ev, ev_through}
+use Rattle.pv_eval.specs.Steps.{Calling}
+use Rattle.pv_eval.specs.OfRuns.{accepted_value, ev_through}
+use Rattle.pv_eval.specs.Evaluation.{ev_by, ev}
 use Rattle.pv_eval.specs.declared.failure.Failure.{Failure}
 use Rattle.pv_eval.specs.declared.failure.Failure.TheVariants as failure
 use Rattle.pv_eval.specs.declared.frames.Move.{Move}
@@ -70,7 +71,7 @@ module _ (b : Setting) (call : Calling) (u : Stored) (n a : NodeId) (l : ListId)
 
     -- the next argument
     pub pointed-one : form_of (expression_at u n) ≡ CallPointer (expression_at u a) xs → i < length ids → (j : Open) (s : State) → through u n a l ws b call j s ≡ operand (ev b call (expression_at u (slice_index_or ids i none))) j s (frame_after b call u (record { node = n; stage = Argument got }))
-    unfolding frame_after ev
+    unfolding frame_after ev_by
     pointed-one form lt j s =
         let x = expression_at u (slice_index_or ids i none) in
         let t : Ty = type_of (expression_at u n) in
@@ -131,7 +132,7 @@ module _ (b : Setting) (call : Calling) (u : Stored) (line line' : ℕ) (t t' : 
   asks vs k f s = then_do (call (function_in f) vs k s) (node_value (sequence_point j))
 
   asked-function : ev_through b call line t p args NoArguments j s ≡ then_do (act b line' (Finds t' p') s) (asks args' line')
-  unfolding ev asks
+  unfolding ev_by asks
   asked-function =
       ap (λ k. then_do (act b k (Finds t p) s) (asks args k)) (sym el)
       ∙ ap (λ x. then_do (act b line' (Finds x p) s) (asks args line')) (sym et)

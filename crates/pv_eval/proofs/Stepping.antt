@@ -11,7 +11,8 @@ use Rattle.pv_eval.specs.TypeForms.{kind_of, element_size}
 use Rattle.pv_types.specs.Sorts.{is_pointer}
 use Rattle.pv_num.specs.Kinds.{promotion_of}
 use Rattle.pv_eval.specs.Operations.{Moves, act}
-use Rattle.pv_eval.specs.Steps.{is_down, combining, stepping}
+use Rattle.pv_eval.specs.Steps.{is_down}
+use Rattle.pv_eval.specs.OfRuns.{combining, stepping}
 
 module _ (b : Setting) (line : ℕ) (t : Ty) (o : IncrementOperator) (v : Worth) (s : State) where
   pub step-pointer : is_pointer t ≡ true → stepping b line t o v s ≡ act b line (Moves (is_down o) true (element_size b t) v (int (pos 1))) s

@@ -25,7 +25,7 @@ use Rattle.pv_eval.specs.declared.codes.PointerPlace.{PointerPlace}
 use Rattle.pv_eval.specs.declared.codes.Code.{Code}
 use Rattle.pv_eval.specs.declared.codes.Code.TheVariants as code
 use Rattle.pv_eval.specs.TypeForms.{shape_of, kind_of}
-use Rattle.pv_types.specs.Sorts.{is_pointer}
+use Rattle.pv_types.specs.Sorts.{bare_type, is_pointer}
 use Rattle.pv_eval.specs.Sizes.{element_in, points}
 use Rattle.pv_world.specs.Suiting.{is_small}
 use Rattle.pv_eval.specs.declared.plain.Found.{Found}
@@ -63,12 +63,12 @@ pub record IsArithmetic (u : Stored) (n : NodeId) (op : BinOp) (k : IntKind) (le
   pub left_is : IsOperandCode u a left
   pub right_is : IsOperandCode u d right
 
--- 6.3.2.1p2: what is known of a node that reads at a place
+-- 6.3.2.1p2: what is known of a node that reads at a place: the type of the place, qualifiers aside
 pub record IsReadOf (u : Stored) (n a : NodeId) (t : TypeId) : Type 0 where
   pub form : form_of (expression_at u n) ≡ form_by u (typed.Read a)
   pub operand : IsBefore u n a
   pub known : t.0 < length u.known.terms
-  pub same : tree u.known t.0 ≡ type_of (expression_at u a)
+  pub same : tree u.known t.0 ≡ bare_type (type_of (expression_at u a))
 
 -- 6.5.1p2: the node designates an object, and this is whether its storage is static
 abbrev pub IsObjectOf : Stored → NodeId → (object : ℕ) → (lasting : Bool) → Type 0

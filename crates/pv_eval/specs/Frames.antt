@@ -14,10 +14,11 @@ use Rattle.pv_eval.specs.TypeForms.{lvalue, kind_of, element_size, pointed_to}
 use Rattle.pv_types.specs.Sorts.{is_void, is_pointer}
 use Rattle.pv_eval.specs.Conversions.{how_to}
 use Rattle.pv_eval.specs.Operations.{Converts, Calculates, CalculatesOne, Tests, Negates, Moves, Subtracts, Orders, Equals, Follows, Selects, TakesPart, act}
-use Rattle.pv_eval.specs.Sequenced.{Given, with_given, node_value, doing, work, operand, later_operand}
-use Rattle.pv_eval.specs.Steps.{Calling, with_conversion, accepted_value, reading, writing, source_of, is_unequal, is_minus, is_after, combining, stepping}
+use Rattle.pv_eval.specs.Sequenced.{Given, with_given, node_value, operand, later_operand}
+use Rattle.pv_eval.specs.OfRuns.{doing, work, with_conversion, accepted_value, reading, writing, combining, stepping, ev_call, ev_through, ev_ask}
+use Rattle.pv_eval.specs.Steps.{Calling, source_of, is_unequal, is_minus, is_after}
 use Rattle.pv_eval.specs.Arguments.{argument}
-use Rattle.pv_eval.specs.Evaluation.{ev, ev_call, ev_through, ev_ask}
+use Rattle.pv_eval.specs.Evaluation.{ev}
 use Rattle.pv_eval.specs.declared.frames.Stage.{Stage}
 use Rattle.pv_eval.specs.declared.frames.Stage.TheVariants as stage
 use Rattle.pv_eval.specs.declared.frames.Frame.{Frame}

@@ -39,3 +39,4 @@ pub mod Progress
 pub mod Plainly
 pub mod Designated
 pub mod AtOnce
+pub mod OfRuns

@@ -1,6 +1,5 @@
 -- The operations of a run (C17 6.3, 6.5, 6.7.9, 7), and what each does.
-use Rattle.std.specs.Prelude.{ℕ, nat_le, Bool, true, ◌&&◌, List, ◌∷◌, Option, drop}
-use Rattle.std.specs.FinMap as map
+use Rattle.std.specs.Prelude.{ℕ, nat_le, Bool, true, ◌&&◌, List, Option, drop}
 use Rattle.pv_num.specs.declared.kinds.IntKind.{IntKind}
 use Rattle.pv_num.specs.declared.operators.BinOp.{BinOp}
 use Rattle.pv_num.specs.declared.operators.UnOp.{UnOp}
@@ -64,7 +63,8 @@ pub data Op : Type 0 where
   MakesLiteral : (literal : ℕ) → Op
   MakesFunction : (function : ℕ) → Op
   Ends : (object : ℕ) → Op
-  BeginsBody : Op
+  -- 6.9.1: of the function with this name, for the call in this line
+  BeginsBody : (function line : ℕ) → Op
   EndsBody : Op
   -- 6.7.9
   Fills : (object : ℕ) → Option ℕ → Op
@@ -121,7 +121,7 @@ works b (Makes o) = makes b o
 works b (MakesLiteral l) = makes_literal b l
 works b (MakesFunction f) = makes_function b f
 works b (Ends o) = ends b o
-works b BeginsBody = λ w. Answers Nothing (record w { bodies = map.empty ∷ w.bodies }) no_telling
+works b (BeginsBody f line) = λ w. Answers Nothing (object.begun_body w f line) no_telling
 works b EndsBody = λ w. Answers Nothing (record w { bodies = drop 1 w.bodies }) no_telling
 works b (Fills o v) = fills b o v
 works b (Puts o offset l v) = puts b o offset l v

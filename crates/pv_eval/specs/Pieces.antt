@@ -23,9 +23,10 @@ use Rattle.pv_world.specs.declared.got.How.TheVariants.{Rounds}
 use Rattle.pv_eval.specs.States.{Setting, State, Res, then_do}
 use Rattle.pv_eval.specs.TypeForms.{lvalue, kind_of, element_size, pointed_to}
 use Rattle.pv_eval.specs.Operations.{Accepts, Needs, Converts, Calculates, CalculatesOne, Equals, Moves, act}
-use Rattle.pv_eval.specs.Sequenced.{Given, node_value, work, operand}
-use Rattle.pv_eval.specs.Steps.{Calling, with_conversion, reading, writing, source_of, is_unequal, is_minus, is_after, combining, stepping}
-use Rattle.pv_eval.specs.Evaluation.{ev, ev_form, ev_through, ev_ask}
+use Rattle.pv_eval.specs.Sequenced.{Given, node_value, operand}
+use Rattle.pv_eval.specs.OfRuns.{work, with_conversion, reading, writing, combining, stepping, ev_form, ev_through, ev_ask}
+use Rattle.pv_eval.specs.Steps.{Calling, source_of, is_unequal, is_minus, is_after}
+use Rattle.pv_eval.specs.Evaluation.{ev}
 use Rattle.pv_eval.specs.Moments.{Moment, Always, state_of}
 use Rattle.pv_eval.specs.Frames.{first_after, second_after, both_after, later_after, argument_after, arguments_from, callee_of, passed_of, asked_with, frame_after}
 use Rattle.pv_eval.specs.Ahead.{Led}

@@ -48,12 +48,13 @@ use Rattle.pv_eval.specs.declared.marked.Marked.{Marked}
 use Rattle.pv_world.specs.declared.got.How.TheVariants.{Rounds}
 use Rattle.pv_eval.specs.States.{Setting, State, Res, Gives, Stops, Turns, then_do}
 use Rattle.pv_eval.specs.TypeForms.{lvalue}
-use Rattle.pv_types.specs.Sorts.{is_scalar_in}
+use Rattle.pv_types.specs.Sorts.{bare_type, is_scalar_in}
 use Rattle.pv_world.specs.Suiting.{knows}
 use Rattle.pv_eval.specs.Operations.{Op, Converts, Reads, Writes, does, act}
 use Rattle.pv_eval.specs.Sequenced.{Given, node_value}
-use Rattle.pv_eval.specs.Steps.{Calling, takes, with_conversion, accepted_value, combining, stepping}
-use Rattle.pv_eval.specs.Evaluation.{ev, ev_form, ev_call}
+use Rattle.pv_eval.specs.Steps.{Calling, takes}
+use Rattle.pv_eval.specs.OfRuns.{with_conversion, accepted_value, combining, stepping, ev_form, ev_call}
+use Rattle.pv_eval.specs.Evaluation.{ev}
 use Rattle.pv_eval.specs.Frames.{first_after, second_after}
 use Rattle.pv_eval.specs.Ahead.{first_operand_of, second_operand_of}
 
@@ -243,9 +244,9 @@ pub record IsObject (w : World) (o : ℕ) (at : Reach) (k : Kind) : Type 0 where
   pub owner : owner_of w at.inst ≡ Some o
   pub offset : at.offset ≡ 0
 
--- 6.5p7: it is the declared type of this object, and an integer or pointer type without qualifiers
+-- 6.5p7: it is the declared type of this object, qualifiers aside, and an integer or pointer type
 pub record IsOwnType (u : Stored) (o : ℕ) (t : TypeId) : Type 0 where
-  pub same : (object_at (whole_unit u) o).t ≡ tree u.known t.0
+  pub same : bare_type (object_at (whole_unit u) o).t ≡ tree u.known t.0
   pub scalar : is_scalar_in (tree u.known t.0) ≡ true
 
 -- 6.2.4p2, 6.5.9p6: a pointer with this address passes its live test, and the table stays: it is null, or into one live instance

@@ -3,7 +3,7 @@ use Rattle.std.specs.Prelude.{ℕ, List}
 use Rattle.pv_seq.specs.Sequencing.{Access, Open, beside, with_operand}
 use Rattle.pv_world.specs.Worlds.{Worth}
 use Rattle.pv_eval.specs.States.{Setting, State, Res, Gives, then_do}
-use Rattle.pv_eval.specs.Operations.{Op, act}
+use Rattle.pv_eval.specs.Operations.{Op}
 
 -- 6.5p2: what a node gives: its value, all its accesses, and those writes whose side effects may be incomplete
 pub record Given : Type 0 where
@@ -19,13 +19,17 @@ with_given j g = with_operand j (record { foes = j.foes; all = g.all; loose = g.
 abbrev pub node_value : Open → Worth → State → Res Given
 node_value j v s = Gives (record { value = v; all = j.all; loose = j.loose }) s
 
+-- 5.1.2.3: what an operation does in the state of a run
+abbrev pub Acts : Type 0
+Acts = Setting → (line : ℕ) → Op → State → Res Worth
+
 -- 6.5p1: an operation of the node, and then what follows
-abbrev pub doing : Setting → (line : ℕ) → Op → State → (Worth → State → Res Given) → Res Given
-doing b line op s go = then_do (act b line op s) go
+abbrev pub doing_by : Acts → Setting → (line : ℕ) → Op → State → (Worth → State → Res Given) → Res Given
+doing_by A b line op s go = then_do (A b line op s) go
 
 -- 6.5p1: an operation that gives the node's value
-abbrev pub work : Setting → (line : ℕ) → Op → Open → State → Res Given
-work b line op j s = then_do (act b line op s) (node_value j)
+abbrev pub work_by : Acts → Setting → (line : ℕ) → Op → Open → State → Res Given
+work_by A b line op j s = then_do (A b line op s) (node_value j)
 
 -- 6.5p1, p2: an operand, against the node's foes and the accesses of the operands before it, from which nothing sequences it
 abbrev pub operand : (List Access → State → Res Given) → Open → State → (Open → Worth → State → Res Given) → Res Given

@@ -20,8 +20,8 @@ use Rattle.pv_num.specs.Kinds.{promotion_of}
 use Rattle.pv_eval.specs.Conversions.{how_to}
 use Rattle.pv_world.specs.declared.got.How.TheVariants.{Rounds}
 use Rattle.pv_eval.specs.Accesses.{access_to}
-use Rattle.pv_eval.specs.Operations.{Converts, Calculates, Accepts, Moves, Reads, Writes, act}
-use Rattle.pv_eval.specs.Sequenced.{Given, doing}
+use Rattle.pv_eval.specs.Operations.{Converts, Calculates, Accepts, Moves, Reads, Writes}
+use Rattle.pv_eval.specs.Sequenced.{Given, Acts, doing_by}
 
 -- 6.5.2.2: what a call of a function does, of its number, its arguments and the line of the call
 abbrev pub Calling : Type 0
@@ -42,21 +42,21 @@ tick_if true b s go = tick b s go
 tick_if false b s go = go s
 
 -- 6.3p1: an operand's value, converted where its node is an implicit conversion
-abbrev pub with_conversion : Setting → TypedTree → Worth → State → Res Worth
-with_conversion b (Node t line turn (Convert (Node u m k x))) v s = act b line (Converts (how_to b true u t) v) s
-with_conversion b (Node t line turn x) v s = Gives v s
+abbrev pub with_conversion_by : Acts → Setting → TypedTree → Worth → State → Res Worth
+with_conversion_by A b (Node t line turn (Convert (Node u m k x))) v s = A b line (Converts (how_to b true u t) v) s
+with_conversion_by A b (Node t line turn x) v s = Gives v s
 
 -- 6.5.2.2p7, 6.7.9p11: an argument, or a value that is stored: converted as if by assignment, and there (6.9.1p12)
-abbrev pub accepted_value : Setting → TypedTree → Worth → State → Res Worth
-accepted_value b x v s = then_do (with_conversion b x v s) (λ v s. act b (line_of x) (Accepts v) s)
+abbrev pub accepted_value_by : Acts → Setting → TypedTree → Worth → State → Res Worth
+accepted_value_by A b x v s = then_do (with_conversion_by A b x v s) (λ v s. A b (line_of x) (Accepts v) s)
 
 -- 6.3.2.1p2, 6.5p2: a read of the node's own
-abbrev pub reading : Setting → Lvalue → (line : ℕ) → (place : Worth) → Open → State → (Open → Worth → State → Res Given) → Res Given
-reading b l line p j s go = doing b line (Reads l p (rivals j)) s (λ v s. go (with_access (access_to l (pointer_of p) false) j) v s)
+abbrev pub reading_by : Acts → Setting → Lvalue → (line : ℕ) → (place : Worth) → Open → State → (Open → Worth → State → Res Given) → Res Given
+reading_by A b l line p j s go = doing_by A b line (Reads l p (rivals j)) s (λ v s. go (with_access (access_to l (pointer_of p) false) j) v s)
 
 -- 6.5.16p3: a write of the node's own
-abbrev pub writing : Setting → Lvalue → (line : ℕ) → (place value : Worth) → (from : Option ℕ) → Open → State → (Open → Worth → State → Res Given) → Res Given
-writing b l line p v from j s go = doing b line (Writes l p v from (rivals j)) s (λ v s. go (with_access (access_to l (pointer_of p) true) j) v s)
+abbrev pub writing_by : Acts → Setting → Lvalue → (line : ℕ) → (place value : Worth) → (from : Option ℕ) → Open → State → (Open → Worth → State → Res Given) → Res Given
+writing_by A b l line p v from j s go = doing_by A b line (Writes l p v from (rivals j)) s (λ v s. go (with_access (access_to l (pointer_of p) true) j) v s)
 
 -- 6.5.16.1p3: a right operand that is an lvalue
 abbrev pub source_of : TypedTree → Worth → Option ℕ
@@ -86,11 +86,11 @@ is_after PostDecrement = true
 is_after _ = false
 
 -- 6.5.16.2p3: the operator at its kind, and back to the kind of the lvalue
-abbrev pub combining : Setting → (line : ℕ) → BinOp → (kind back : IntKind) → Worth → Worth → State → Res Worth
-combining b line op kind back v x s = then_do (act b line (Calculates op kind v x) s) (λ v s. act b line (Converts (Rounds back) v) s)
+abbrev pub combining_by : Acts → Setting → (line : ℕ) → BinOp → (kind back : IntKind) → Worth → Worth → State → Res Worth
+combining_by A b line op kind back v x s = then_do (A b line (Calculates op kind v x) s) (λ v s. A b line (Converts (Rounds back) v) s)
 
 -- 6.5.2.4p2, 6.5.3.1p2: 1 is added or taken off
-abbrev pub stepping : Setting → (line : ℕ) → Ty → IncrementOperator → Worth → State → Res Worth
-stepping b line t o v s =
-    if is_pointer t then act b line (Moves (is_down o) true (element_size b t) v (int (pos 1))) s
-    else combining b line (if is_down o then op.Sub else op.Add) (promotion_of (kind_of t)) (kind_of t) v (int (pos 1)) s
+abbrev pub stepping_by : Acts → Setting → (line : ℕ) → Ty → IncrementOperator → Worth → State → Res Worth
+stepping_by A b line t o v s =
+    if is_pointer t then A b line (Moves (is_down o) true (element_size b t) v (int (pos 1))) s
+    else combining_by A b line (if is_down o then op.Sub else op.Add) (promotion_of (kind_of t)) (kind_of t) v (int (pos 1)) s

@@ -10,7 +10,7 @@ ghost use Rattle.pv_eval.specs.States.{Setting, State};
 ghost use Rattle.pv_seq.specs.Sequencing.{Open};
 ghost use Rattle.pv_seq.specs.Rivals.{below};
 ghost use Rattle.pv_eval.specs.Steps.{Calling};
-ghost use Rattle.pv_eval.specs.Evaluation.{ev_call};
+ghost use Rattle.pv_eval.specs.OfRuns.{ev_call};
 ghost use Rattle.pv_world.specs.Coming.{worth_of};
 ghost use Rattle.pv_eval.specs.Runnable.{IsRunnable};
 ghost use Rattle.pv_eval.specs.Moments.{Stays};

@@ -1,7 +1,7 @@
 // What is known of an expression's node before a run, so that nothing of its types is looked up when it is evaluated.
 ghost use Rattle.std.specs.Prelude.{◌≡◌, ◌<◌, true, IfSome, IsTrue, length};
 ghost use Rattle.pv_types.specs.Known.{tree};
-ghost use Rattle.pv_types.specs.Sorts.{is_scalar_in};
+ghost use Rattle.pv_types.specs.Sorts.{bare_type, is_scalar_in};
 ghost use Rattle.pv_typed.specs.declared.nodes.Typed.{Typed as Row};
 ghost use Rattle.pv_typed.specs.Formed.{NamesIn};
 ghost use Rattle.pv_typed.specs.Known.{AreKnown};
@@ -17,6 +17,7 @@ ghost use Rattle.pv_eval.specs.Codes.{IsCode, IsIntegerPlace, IsPointerPlace, Is
 use crate::members::{Designated, in_structure};
 use crate::plain_places::pointed_size;
 use crate::types::{is_none, kind, pointee, shape};
+use pv_layout::bare;
 use pv_num::{BinOp, IntKind};
 use pv_tree::NodeId;
 use pv_typed::{IncrementOperator, Sign, Typed, TypedUnit};
@@ -87,19 +88,21 @@ pub(crate) enum Code {
     Compound(IntegerPlace, Operand, BinOp, IntKind, IntKind),
 }
 
-/// Whether an object's declared type is the one of this number.
+/// Whether an object's declared type is, qualifiers aside, the one of this number.
 fn has_type(unit: &TypedUnit, o: u32, t: TypeId) -> bool
-    requires { o < length unit.now.objects }
-    ensures { IsTrue result → (object_at (whole_unit unit.now) o).t ≡ tree unit.now.known t.0 }
+    requires known { AreKnown unit.now }
+    requires there { o < length unit.now.objects }
+    ensures { IsTrue result → bare_type (object_at (whole_unit unit.now) o).t ≡ tree unit.now.known t.0 }
 {
-    unit.object(o).t.0 == t.0
+    bare(unit.types(), unit.object(o).t).0 == t.0
 }
 
-/// The object that a node of this type designates, with that as its declared type, and whether its storage is static.
+/// The object that a node of this type designates, with that as its declared type, qualifiers aside, and whether its storage is static.
 fn named_object(unit: &TypedUnit, a: NodeId, t: TypeId) -> Option<(u32, bool)>
-    requires { IsExpression unit.now a }
+    requires known { AreKnown unit.now }
+    requires there { IsExpression unit.now a }
     ensures object { IfSome result (λ x. IsObjectOf unit.now a x.0 x.1) }
-    ensures own { IfSome result (λ x. (object_at (whole_unit unit.now) x.0).t ≡ tree unit.now.known t.0) }
+    ensures own { IfSome result (λ x. bare_type (object_at (whole_unit unit.now) x.0).t ≡ tree unit.now.known t.0) }
 {
     match unit.node(a) {
         Typed::Object(o) => {
@@ -121,7 +124,7 @@ fn read_code(unit: &TypedUnit, n: NodeId, a: NodeId) -> Code
     requires form { form_of (expression_at unit.now n) ≡ form_by unit.now (Row.Read a) }
     ensures { IsCode unit.now n result }
 {
-    let t = unit.type_of(a);
+    let t = bare(unit.types(), unit.type_of(a));
     let own = in_structure(unit, a, t);
     match unit.types().view(t) {
         Term::Int(kind) => match named_object(unit, a, t) {
@@ -221,10 +224,11 @@ fn sum_code(unit: &TypedUnit, n: NodeId, sign: Sign, a: NodeId, d: NodeId) -> Op
     Some(Code::Sum(sign, a, d, size))
 }
 
-/// The object that a node of this type designates, with that as its declared type.
+/// The object that a node of this type designates, with that as its declared type, qualifiers aside.
 fn own_object(unit: &TypedUnit, a: NodeId, t: TypeId) -> Option<u32>
-    requires { IsExpression unit.now a }
-    ensures { IfSome result (λ o. (object_at (whole_unit unit.now) o).t ≡ tree unit.now.known t.0) }
+    requires known { AreKnown unit.now }
+    requires there { IsExpression unit.now a }
+    ensures { IfSome result (λ o. bare_type (object_at (whole_unit unit.now) o).t ≡ tree unit.now.known t.0) }
 {
     let Some((o, _)) = named_object(unit, a, t) else {
         return None;
@@ -234,6 +238,7 @@ fn own_object(unit: &TypedUnit, a: NodeId, t: TypeId) -> Option<u32>
 
 /// What is known of what a node of this scalar type designates.
 fn designated(unit: &TypedUnit, a: NodeId, t: TypeId) -> Designated
+    requires known { AreKnown unit.now }
     requires there { IsExpression unit.now a }
     requires scalar { is_scalar_in (tree unit.now.known t.0) ≡ true }
     ensures { IsDesignated unit.now result t }

@@ -1,7 +1,7 @@
 // Implicit conversions of operands (C17 6.3), made by the node above.
 ghost use Rattle.pv_typed.specs.NodeTrees.{expression_at, IsExpression};
 ghost use Rattle.pv_eval.specs.States.{then_do};
-ghost use Rattle.pv_eval.specs.Steps.{accepted_value, with_conversion};
+ghost use Rattle.pv_eval.specs.OfRuns.{accepted_value, with_conversion};
 ghost use Rattle.pv_eval.specs.Operations.{Accepts, act};
 ghost use Rattle.pv_world.specs.Coming.{worth_of};
 ghost use Rattle.pv_eval.specs.Runnable.{IsRunnable};

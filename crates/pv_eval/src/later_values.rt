@@ -2,7 +2,7 @@
 ghost use Rattle.std.specs.Prelude.{List};
 ghost use Rattle.pv_typed.specs.Children.{HasOperands};
 ghost use Rattle.pv_typed.specs.NodeTrees.{IsExpression};
-ghost use Rattle.pv_eval.specs.Sequenced.{work};
+ghost use Rattle.pv_eval.specs.OfRuns.{work};
 ghost use Rattle.pv_seq.specs.Sequencing.{Open};
 ghost use Rattle.pv_seq.specs.Rivals.{top};
 ghost use Rattle.pv_eval.specs.Steps.{Calling};

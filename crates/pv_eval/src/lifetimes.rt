@@ -38,14 +38,14 @@ impl Moment {
         self.told = told;
     }
 
-    /// A body begins, without objects of its own (C17 6.2.4p6).
-    pub fn begin_body(&mut self) -> Result<(), Failure>
-        ensures made { (u : Stored) → Always u self.old (λ b out es. (line : ℕ) → Made (act b line BeginsBody (state_of self.old out es)) result (state_of self.new out es)) }
+    /// A body begins, without objects of its own (C17 6.2.4p6): of the function with this name, for the call in this line.
+    pub fn begin_body(&mut self, function: u32, line: u32) -> Result<(), Failure>
+        ensures made { (u : Stored) → Always u self.old (λ b out es. (at : ℕ) → Made (act b at (BeginsBody function line) (state_of self.old out es)) result (state_of self.new out es)) }
         ensures stays { Stays self.old self.new }
         ensures memory { IsMemory result }
     {
         let told = Vec::new(self.alloc);
-        match self.world.begin_body() {
+        match self.world.begin_body(function, line) {
             Ok(()) => self.close_done(&told),
             Err(_) => Err(Failure::NoMemory),
         }

@@ -35,7 +35,7 @@ use pv_seq::Access;
 use pv_tree::NodeId;
 use pv_typed::{Const, TypedUnit};
 use pv_types::TypeId;
-use pv_world::Got;
+use pv_world::{Got, World};
 use std::alloc::Global;
 use std::collections::VecDeque;
 use std::marker::Model;
@@ -454,6 +454,14 @@ impl Machine {
         Kept::new(self.alloc, v)
     }
 
+    /// The world alone; all else that is in hand is let go.
+    pub fn into_world(self) -> World
+        ensures { result ≡ self.moment.world }
+    {
+        let moment = self.moment;
+        moment.world
+    }
+
     /// The line of the call that is handed up.
     pub fn line(&self) -> u32
         ensures { result ≡ asked_line self.now.started }
@@ -511,14 +519,14 @@ impl Machine {
         self.moment.waiting()
     }
 
-    /// A body begins, with no objects of its own (C17 6.2.4p6).
-    pub fn begin_body(&mut self) -> Result<(), Failure>
-        ensures made { (u : Stored) → Always u self.old.moment (λ b out es. (line : ℕ) → Made (act b line BeginsBody (state_of self.old.moment out es)) result (state_of self.new.moment out es)) }
+    /// A body begins, with no objects of its own (C17 6.2.4p6): of the function with this name, for the call in this line.
+    pub fn begin_body(&mut self, function: u32, line: u32) -> Result<(), Failure>
+        ensures made { (u : Stored) → Always u self.old.moment (λ b out es. (at : ℕ) → Made (act b at (BeginsBody function line) (state_of self.old.moment out es)) result (state_of self.new.moment out es)) }
         ensures started { self.new.started ≡ self.old.started }
         ensures stays { Stays self.old.moment self.new.moment }
         ensures memory { IsMemory result }
     {
-        self.moment.begin_body()
+        self.moment.begin_body(function, line)
     }
 
     /// The innermost body ends.

@@ -101,7 +101,7 @@ fn is_element(unit: &TypedUnit, object: Option<u32>, offset: u64, want: TypeId) 
     let Term::Int(kind) = layer(unit.types(), want) else {
         return false;
     };
-    if element.0 != want.0 || n > 0x2000_0000 {
+    if bare(unit.types(), element).0 != want.0 || n > 0x2000_0000 {
         return false;
     }
     let size = bytes_of(kind);

@@ -3,6 +3,7 @@ ghost use Rattle.std.specs.Prelude.{◌≡◌, ◌<◌, ◌++◌, ◌∷◌, [],
 ghost use Rattle.pv_seq.specs.SequencingParts.{access_of};
 ghost use Rattle.pv_types.specs.Ty.{Ty, IntTy};
 ghost use Rattle.pv_types.specs.Known.{tree};
+ghost use Rattle.pv_types.specs.Sorts.{bare_type};
 ghost use Rattle.pv_typed.specs.declared.nodes.Typed.{Typed as Row};
 ghost use Rattle.pv_typed.specs.Known.{AreKnown};
 ghost use Rattle.pv_typed.specs.TypedTree.{type_of};
@@ -67,7 +68,7 @@ fn read_integer(
 ) -> Option<Found>
     requires known { AreKnown unit.now }
     requires number { t.0 < length unit.now.known.terms }
-    requires same { tree unit.now.known t.0 ≡ type_of (expression_at unit.now a) }
+    requires same { tree unit.now.known t.0 ≡ bare_type (type_of (expression_at unit.now a)) }
     requires integer { tree unit.now.known t.0 ≡ IntTy kind }
     requires own { IsDesignated unit.now own t }
     ensures { (s : Ty) → IfSome result (λ v. GivesNoting unit.now world.now s (Row.Read a) (found_worth place) (found_worth v) noting notes.old.items notes.new.items) }
@@ -95,7 +96,7 @@ fn read_pointer(
 ) -> Option<Found>
     requires known { AreKnown unit.now }
     requires number { t.0 < length unit.now.known.terms }
-    requires same { tree unit.now.known t.0 ≡ type_of (expression_at unit.now a) }
+    requires same { tree unit.now.known t.0 ≡ bare_type (type_of (expression_at unit.now a)) }
     requires pointer { points (tree unit.now.known t.0) ≡ true }
     requires own { IsDesignated unit.now own t }
     ensures { (s : Ty) → IfSome result (λ v. GivesNoting unit.now world.now s (Row.Read a) (found_worth place) (found_worth v) noting notes.old.items notes.new.items) }

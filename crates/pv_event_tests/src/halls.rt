@@ -1,5 +1,5 @@
 // Halls of watchers that say what they have seen, with which names.
-ghost use Rattle.std.specs.Prelude.{◌<◌, ◌++◌, length, codes};
+ghost use Rattle.std.specs.Prelude.{◌≡◌, ◌<◌, ◌++◌, length, codes, IfOk};
 ghost use Rattle.std.specs.Fmt.{decimal};
 
 use pv_fault::{Clause, Fault, Reason, Verdict};
@@ -7,13 +7,15 @@ use pv_script::Names;
 use pv_watch::{Attend, Event, Hall, NoMemory, Watch, What};
 use std::alloc::Global;
 
-/// A watcher that says how many events it has seen and how many names there are, with room for some events.
+/// A watcher that says how many events it has seen and how many names there are, with room for some events. Its kind has
+/// none of the numbers whose texts are given.
 #[derive(Drop)]
 struct Counting {
     kind: u8,
     wants: u64,
     room: usize,
     seen: Vec<Event>,
+    ghost own: { 4 < kind },
     ghost some: { 0 < wants },
 }
 
@@ -49,12 +51,20 @@ impl Watch for Counting {
     fn text(&self, alloc: Global, names: &Names) -> Result<Vec<u8>, NoMemory> {
         let seen = self.seen.len();
         let known = names.len();
-        let text = format!(in alloc; "{seen} {known}\n")?;
-        Ok(text.into_bytes())
+        let text = counted(alloc, seen, known)?;
+        Ok(text)
     }
 }
 
+fn counted(alloc: Global, seen: usize, known: u32) -> Result<Vec<u8>, NoMemory>
+    ensures { IfOk result (λ v. v.items ≡ decimal seen ++ codes " " ++ decimal known ++ codes "\n") }
+{
+    let text = format!(in alloc; "{seen} {known}\n")?;
+    Ok(text.into_bytes())
+}
+
 fn watcher_of(alloc: Global, kind: u8, wants: u64, room: usize) -> Counting
+    requires own { 4 < kind }
     requires some { 0 < wants }
 {
     Counting {
@@ -101,7 +111,7 @@ fn tells_those_who_are_present(rt: HostRuntime) {
     let alloc = rt.alloc();
     let mut watchers: Vec<Box<dyn Watch>> = Vec::new(alloc);
     for (kind, wants, room) in [(7, 3, 10), (8, 1, 10), (9, 2, 0), (7, 9, 10)] {
-        assert!(rt; wants > 0);
+        assert!(rt; kind > 4 && wants > 0);
         let watcher = Box::new(alloc, watcher_of(alloc, kind, wants, room)).expect(
             &rt,
             "no memory",

@@ -11,8 +11,7 @@ use Rattle.pv_exec.specs.declared.task.Task.{Task}
 use Rattle.pv_exec.specs.declared.task.Doing.{Doing}
 use Rattle.pv_exec.specs.Tasks.{Reached}
 use Rattle.pv_exec.specs.Works.{does, Work, after_work, Holds}
-use Rattle.pv_exec.specs.Blocks.{end_all}
-use Rattle.pv_exec.specs.Calls.{below}
+use Rattle.pv_exec.specs.OfRuns.{end_all, below}
 use Rattle.pv_exec.specs.Running.{main_called, whole_run}
 use Rattle.pv_exec.proofs.Executed.{Alike, end-way, body-closed, run-closed, even-closed}
 use Rattle.pv_exec.proofs.Framed.{rest-closed}

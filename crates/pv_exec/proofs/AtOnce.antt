@@ -25,11 +25,10 @@ use Rattle.pv_exec.specs.declared.task.Task.{Task}
 use Rattle.pv_exec.specs.declared.task.Doing.{Doing}
 use Rattle.pv_exec.specs.declared.task.Doing.TheVariants as doing
 use Rattle.pv_exec.specs.declared.task.Flow.TheVariants as flow
-use Rattle.pv_exec.specs.Execution.{ex}
+use Rattle.pv_exec.specs.OfRuns.{ex, full_expression, below}
 use Rattle.pv_exec.specs.Entering.{behind_turn}
-use Rattle.pv_exec.specs.Flows.{Falls, full_expression, nothing_done}
+use Rattle.pv_exec.specs.Flows.{Falls, nothing_done}
 use Rattle.pv_exec.specs.Tasks.{Reached, Left, Valued, left_flow}
-use Rattle.pv_exec.specs.Calls.{below}
 use Rattle.pv_exec.specs.Works.{does, due, turn_due, others, after_work, Standing}
 use Rattle.pv_exec.specs.Fits.{Runs, DoingFits, TasksStand}
 use Rattle.pv_eval.specs.Plainly.{GivesValue}

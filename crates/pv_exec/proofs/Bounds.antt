@@ -15,9 +15,10 @@ use Rattle.pv_world.specs.Worths.{is_true}
 use Rattle.pv_eval.specs.declared.frames.Now.{Now}
 use Rattle.pv_eval.specs.declared.frames.Now.TheVariants as now
 use Rattle.pv_eval.specs.States.{Setting, State, Turns, Res, Gives, Stops, then_do}
-use Rattle.pv_eval.specs.Sequenced.{Given, with_given, work, operand, node_value}
-use Rattle.pv_eval.specs.Steps.{Calling, reading}
-use Rattle.pv_eval.specs.Evaluation.{ev}
+use Rattle.pv_eval.specs.Sequenced.{Given, with_given, operand, node_value}
+use Rattle.pv_eval.specs.OfRuns.{work, reading}
+use Rattle.pv_eval.specs.Steps.{Calling}
+use Rattle.pv_eval.specs.Evaluation.{ev_by, ev}
 use Rattle.pv_eval.specs.Operations.{Moves, Follows, Tests, act}
 use Rattle.pv_eval.specs.TypeForms.{lvalue, element_size}
 use Rattle.pv_types.specs.Sorts.{is_void as is_none, is_pointer}
@@ -28,10 +29,11 @@ use Rattle.pv_eval.specs.Machines.{Started, left_of, is_due_at}
 use Rattle.pv_exec.specs.declared.task.Task.{Task}
 use Rattle.pv_exec.specs.declared.task.Doing.{Doing}
 use Rattle.pv_exec.specs.declared.task.Doing.TheVariants as doing
-use Rattle.pv_exec.specs.Flows.{Flow, Falls, Below, stores_value, then_step, if_tested}
+use Rattle.pv_exec.specs.Flows.{Flow, Falls, Below}
+use Rattle.pv_exec.specs.OfRuns.{stores_value, then_step, if_tested, ex, below}
 use Rattle.pv_exec.specs.Lists.{store_all}
-use Rattle.pv_exec.specs.Execution.{ex}
-use Rattle.pv_exec.specs.Calls.{below}
+use Rattle.pv_exec.specs.Execution.{ex_by}
+use Rattle.pv_exec.specs.Calls.{below_by}
 use Rattle.pv_exec.specs.Parts.{Loop, loop_of, rest_of_loop}
 use Rattle.pv_exec.specs.Tasks.{Reached, Valued, left_flow}
 use Rattle.pv_exec.specs.Works.{does, due, turn_due, after_work, Holds}
@@ -46,7 +48,7 @@ operand-out e j s go h = ap (λ (m : Res Given). then_do m (λ g s. go (with_giv
 
 -- an expression
 ev-out : (b : Setting) (call : Calling) (x : TypedTree) (fs : List Access) (s : State) → b.bound ≤ s.taken → ev b call x fs s ≡ Stops Turns s
-unfolding ev
+unfolding ev_by
 ev-out b call (Node t line turn (Constant n)) fs s le = no-tick b s _ le
 ev-out b call (Node t line turn (Object o)) fs s le = no-tick b s _ le
 ev-out b call (Node t line turn (Function f)) fs s le = no-tick b s _ le
@@ -85,7 +87,7 @@ ev-out b call (Node t line turn (Convert x)) fs s le = operand-out (ev b call x)
 
 -- a statement
 ex-out : (b : Setting) (w : Below) (x : TypedStatement) (s : State) → b.bound ≤ s.taken → ex b w x s ≡ Stops Turns s
-unfolding ex
+unfolding ex_by
 ex-out b w (Case line n x) s le = ex-out b w x s le
 ex-out b w (Default line x) s le = ex-out b w x s le
 ex-out b w (Block line os xs) s le = turned b w (Block line os xs) s refl ∙ no-tick b s _ le
@@ -191,7 +193,7 @@ test-out b call (Some x) go s h le =
     ap (λ (m : Res Given). then_do (then_do (then_do m (λ g s. Gives g.value s)) (λ v s. act b (line_of x) (Tests v) s)) (λ v s. if is_true v then go s else Gives Falls s)) (ev-out b call x [] s le)
 
 round-out : (b : Setting) (k : ℕ) (l : Loop) (s : State) → is_some l.condition ≡ true → b.bound < s.taken + k → s.taken ≤ b.bound → b.bound ≤ s.taken → (below b k).again l.condition l.step l.body s ≡ Stops Turns s
-unfolding below
+unfolding below_by
 round-out b zero l s h lt most le = absurd (omega (arith, lt, most))
 round-out b (suc k) l s h lt most le = test-out b (below b k).call l.condition (λ s. then_do (ex b (below b k) l.body s) (rest_of_loop b (below b k) l)) s h le
 

@@ -32,8 +32,8 @@ use Rattle.pv_exec.specs.declared.task.Task.TheVariants as task
 use Rattle.pv_exec.specs.declared.task.Doing.TheVariants as doing
 use Rattle.pv_exec.specs.declared.task.Way.TheVariants as way
 use Rattle.pv_exec.specs.Flows.{Flow}
-use Rattle.pv_exec.specs.Blocks.{end_all}
-use Rattle.pv_exec.specs.Calls.{below, take_params, runs_body, value_by}
+use Rattle.pv_exec.specs.OfRuns.{end_all, below, take_params, runs_body}
+use Rattle.pv_exec.specs.Calls.{below_by, value_by}
 use Rattle.pv_exec.specs.Tasks.{Valued, left_flow, after_flow, after_task}
 use Rattle.pv_exec.specs.Fits.{DoingFits}
 use Rattle.pv_exec.specs.Works.{does, due}
@@ -70,11 +70,11 @@ taken-rest (e ∷ es) (f ∷ fs) h = h.2
 
 -- a call, whose parameters have their arguments
 call-begun : (b : Setting) (k f line : ℕ) (vs : List Worth) (s : State) (r : Res Worth) → body_beginning b line (function_at b.unit f) vs s ≡ r → (below b (suc k)).call f vs line s ≡ then_do r (λ x s. then_do (runs_body b (below b k) (function_at b.unit f).body s) (λ fl s. then_do (end_all b (function_at b.unit f).params s) (λ x s. then_do (act b line EndsBody s) (λ x s. Gives (value_by b (function_at b.unit f) fl) s))))
-unfolding below
+unfolding below_by
 call-begun b k f line vs s r h =
     let F = function_at b.unit f in
     let G = λ (x : Worth) (s : State). then_do (runs_body b (below b k) F.body s) (λ fl s. then_do (end_all b F.params s) (λ x s. then_do (act b line EndsBody s) (λ x s. Gives (value_by b F fl) s))) in
-    then-then (act b line BeginsBody s) (λ x s. take_params b line F.params vs s) G ∙ ap (λ m. then_do m G) h
+    then-then (act b line (BeginsBody F.name line) s) (λ x s. take_params b line F.params vs s) G ∙ ap (λ m. then_do m G) h
 
 -- the body begins
 pub call-leads : (b : Setting) (u : Stored) (k f : ℕ) (d : Doing) (old new : List Started) (s s2 : State) → s2.taken ≤ b.bound → b.bound < s2.taken + k → b.unit ≡ whole_unit u → BodyIs u f d → IsTaken new old → body_beginning b (asked_line old) (function_at b.unit f) (asked_arguments old) s ≡ Gives Nothing s2 → Leads b u (calls b u k f old s) (after_first old) (way.With (task.InCall f (asked_line old)) d) new s2

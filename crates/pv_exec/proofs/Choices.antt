@@ -23,11 +23,11 @@ use Rattle.pv_exec.specs.declared.task.Task.{Task}
 use Rattle.pv_exec.specs.declared.task.Task.TheVariants as task
 use Rattle.pv_exec.specs.declared.task.Doing.TheVariants as doing
 use Rattle.pv_exec.specs.Entering.{behind_turn, is_labelled}
-use Rattle.pv_exec.specs.Flows.{Below, full_expression}
+use Rattle.pv_exec.specs.Flows.{Below}
+use Rattle.pv_exec.specs.OfRuns.{full_expression, below}
 use Rattle.pv_exec.specs.Parts.{Choice, choice_of, branch_of}
 use Rattle.pv_exec.specs.Read.{choice_in, other_side_of, side_of, ChoiceFits, HasOther}
 use Rattle.pv_exec.specs.Tasks.{Reached, left_flow, after_value}
-use Rattle.pv_exec.specs.Calls.{below}
 use Rattle.pv_exec.specs.Works.{does, due, others, after_work, Work, Standing}
 use Rattle.pv_exec.specs.Fits.{DoingFits}
 use Rattle.pv_exec.specs.Turning.{AtOnceLed, CutBefore}

@@ -17,8 +17,7 @@ use Rattle.pv_exec.specs.declared.parts.ChoiceParts.{ChoiceParts}
 use Rattle.pv_exec.specs.declared.task.Task.TheVariants as task
 use Rattle.pv_exec.specs.declared.task.Way.TheVariants as way
 use Rattle.pv_exec.specs.Flows.{Falls}
-use Rattle.pv_exec.specs.Execution.{ex}
-use Rattle.pv_exec.specs.Calls.{below}
+use Rattle.pv_exec.specs.OfRuns.{ex, below}
 use Rattle.pv_exec.specs.Parts.{choice_of, branch_of, other_side}
 use Rattle.pv_exec.specs.Tasks.{Left, left_flow, after_value}
 use Rattle.pv_exec.specs.Works.{does}

@@ -13,8 +13,9 @@ use Rattle.pv_eval.specs.Constants.{constant_worth}
 use Rattle.pv_eval.specs.Operations.{NamesFunction, MakesFunction, Finds, Op, Converts, Calculates, CalculatesOne, Tests, Negates, Accepts, Needs, Moves, Subtracts, Orders, Equals, Follows, Selects, TakesPart, Reads, Writes, NamesObject, NamesLiteral, Makes, MakesLiteral, Ends, BeginsBody, EndsBody, Fills, Puts, PutsText, Asks, does, act}
 use Rattle.pv_eval.proofs.Closed.{beside_setting}
 use Rattle.pv_exec.specs.declared.outcome.Outcome.TheVariants as outcome
-use Rattle.pv_exec.specs.Calls.{below}
-use Rattle.pv_exec.specs.Run.{setting_of, initial_state, run_of, outcome_of}
+use Rattle.pv_exec.specs.Calls.{below_by}
+use Rattle.pv_exec.specs.OfRuns.{below}
+use Rattle.pv_exec.specs.Run.{setting_of, initial_state, run_of_by, run_of, outcome_of}
 use Rattle.pv_exec.specs.Growing.{Grew}
 use Rattle.pv_exec.specs.Laws.{run_at, IsWithin, TakesAll, IsCut}
 use Rattle.pv_exec.proofs.Executed.{WaysIn, Alike, below-closed, run-closed}
@@ -48,7 +49,7 @@ same-does b n (Makes o) w = refl
 same-does b n (MakesLiteral l) w = refl
 same-does b n (MakesFunction f) w = refl
 same-does b n (Ends o) w = refl
-same-does b n BeginsBody w = refl
+same-does b n (BeginsBody f l) w = refl
 same-does b n EndsBody w = refl
 same-does b n (Fills o v) w = refl
 same-does b n (Puts o offset l v) w = refl
@@ -118,7 +119,7 @@ cutting b l le =
 
 -- where the first has no level left
 bottom : (b : Setting) (l : ℕ) (le : b.bound ≤ l) (k : ℕ) → Alike b l b.sides (cutting b l le).ways zero (below b zero) (below (beside_setting b l b.sides) k)
-unfolding below
+unfolding below_by
 bottom b l le k =
     let c = beside_setting b l b.sides in
     let g = alike c k in
@@ -129,7 +130,7 @@ bottom b l le k =
     }
 
 run-cut : (u : Stored) (sides : Option (List Bool)) (zap : Bool) (script : List ScriptLine) (n l : ℕ) → n ≤ l → Cut n (run_at u sides zap script n) (run_at u sides zap script l)
-unfolding run_of
+unfolding run_of_by
 run-cut u sides zap script n l le =
     let b = setting_of u n sides zap in
     (run-closed b l sides (cutting b l le) n (below-closed b l sides (cutting b l le).ways (bottom b l le) n l le)).cuts (initial_state script zap)

@@ -18,9 +18,9 @@ use Rattle.pv_exec.specs.declared.task.Task.TheVariants as task
 use Rattle.pv_exec.specs.declared.task.Doing.TheVariants as doing
 use Rattle.pv_exec.specs.declared.task.Flow.TheVariants as code_flow
 use Rattle.pv_exec.specs.declared.task.Way.TheVariants as way
-use Rattle.pv_exec.specs.Flows.{Flow, Falls, Continues, Below, full_expression, goes_on, if_tested}
-use Rattle.pv_exec.specs.Execution.{ex}
-use Rattle.pv_exec.specs.Calls.{below}
+use Rattle.pv_exec.specs.Flows.{Flow, Falls, Continues, Below, goes_on}
+use Rattle.pv_exec.specs.OfRuns.{full_expression, if_tested, ex, below}
+use Rattle.pv_exec.specs.Calls.{below_by}
 use Rattle.pv_exec.specs.Parts.{do_of, rounded_do, tested_do}
 use Rattle.pv_exec.specs.Tasks.{Left, left_flow, after_flow, after_value, after_task}
 use Rattle.pv_exec.specs.Works.{does}
@@ -31,7 +31,7 @@ use Rattle.pv_exec.proofs.Leaving.{leaves-at}
 
 -- a further round is one level lower
 again-do-leads : (b : Setting) (u : Stored) (k : ℕ) (n : NodeId) (p : DoParts) (stand es : List Started) (s : State) → s.taken ≤ b.bound → b.bound < s.taken + k → do_of (statement_at u n) ≡ Some (do_in (nodes u) p) → es ≡ stand → Leads b u (left_flow ((below b k).again_do (statement_at u p.body) (expression_at u p.condition) s)) stand (way.With (task.RoundedDo n) (doing.Enter p.body)) es s
-unfolding below does after_flow
+unfolding below_by does after_flow
 again-do-leads b u zero n p stand es s le lt e st = absurd (omega (arith, le, lt))
 again-do-leads b u (suc k) n p stand es s le lt e st =
     let w = below b k in

@@ -13,12 +13,10 @@ use Rattle.pv_tree.specs.declared.nodes.ListId.{ListId}
 use Rattle.pv_eval.specs.Moments.{Made, Moment, state_of}
 use Rattle.pv_eval.specs.Operations.{Tests, Accepts, act}
 use Rattle.pv_eval.specs.States.{Setting, State, Res, Gives, Stops, Turns, then_do, spend}
-use Rattle.pv_eval.specs.Steps.{with_conversion}
+use Rattle.pv_eval.specs.OfRuns.{with_conversion}
 use Rattle.pv_eval.specs.declared.marked.Marked.{Marked}
-use Rattle.pv_exec.specs.Calls.{below}
-use Rattle.pv_exec.specs.Execution.{ex, exs}
-use Rattle.pv_exec.specs.Flows.{then_step, Flow, Falls, Returns, Below, full_expression}
-use Rattle.pv_exec.specs.Blocks.{in_block, end_all}
+use Rattle.pv_exec.specs.OfRuns.{below, ex, exs, then_step, full_expression, in_block, end_all}
+use Rattle.pv_exec.specs.Flows.{Flow, Falls, Returns, Below}
 use Rattle.pv_exec.specs.Lists.{make_all}
 use Rattle.pv_world.specs.Worths.{is_true}
 use Rattle.pv_eval.specs.declared.failure.Failure.{Failure}

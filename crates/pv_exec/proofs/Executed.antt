@@ -16,14 +16,12 @@ use Rattle.pv_eval.specs.TypeForms.{Lvalue, lvalue, size_of}
 use Rattle.pv_eval.specs.Constants.{constant_worth}
 use Rattle.pv_eval.specs.Operations.{Op, Tests, Accepts, Needs, Makes, MakesLiteral, MakesFunction, Ends, BeginsBody, EndsBody, Fills, Puts, PutsText, act}
 use Rattle.pv_eval.proofs.Closed.{Relation, IsLvalue, Ways, beside_setting, choice, converted-way, handed-way, ev-closed}
-use Rattle.pv_exec.specs.Flows.{Flow, Falls, Breaks, Continues, Returns, Below, full_expression, testing, falls, goes_on, behind_switch, stores_value, begin_fill, declares, if_tested, then_step, round, round_do, returns_value}
-use Rattle.pv_exec.specs.Blocks.{end_all, in_block}
+use Rattle.pv_exec.specs.Flows.{Flow, Falls, Breaks, Continues, Returns, Below, falls, goes_on, behind_switch}
+use Rattle.pv_exec.specs.OfRuns.{full_expression, testing, stores_value, begin_fill, declares, if_tested, then_step, round, round_do, returns_value, end_all, in_block, ex, exs, exs_at, take_params, runs_body, call_body, below, make_static, store_constant, store_static, prepare, call_main}
 use Rattle.pv_exec.specs.Lists.{make_all, store_all, make_statics, make_literals, make_functions, store_statics, initialize_statics}
 use Rattle.pv_exec.specs.Labels.{Target, ToCase, ToDefault, ToNone, target_of, is_target, unless_none}
-use Rattle.pv_exec.specs.Execution.{ex, exs, exs_at}
-use Rattle.pv_exec.specs.Calls.{take_params, value_by, runs_body, call_body, below}
-use Rattle.pv_exec.specs.Preparing.{make_static, store_constant, store_static, prepare}
-use Rattle.pv_exec.specs.Run.{call_main}
+use Rattle.pv_exec.specs.Execution.{ex_by}
+use Rattle.pv_exec.specs.Calls.{value_by, below_by}
 
 -- and the store of a constant, whose value is read off the world
 pub record WaysIn (b b' : Setting) (R : Relation) : Type 1 where
@@ -117,7 +115,7 @@ module _ (b : Setting) (n : ℕ) (sides : Option (List Bool)) {R : Relation} (w 
     returns-way (Some x) line = w.seq (w.less (full-way x)) (λ v. w.seq (converted-way b n sides w x v) (λ v. w.seq (w.acts line (Accepts v) tt) (λ v. w.gives (Returns v))))
 
     mutual
-      unfolding ex
+      unfolding ex_by
 
       -- every statement takes a turn
       pub ex-closed : (x : TypedStatement) → R (suc k) k Flow (ex b u x) (ex c u' x)
@@ -187,11 +185,11 @@ module _ (b : Setting) (n : ℕ) (sides : Option (List Bool)) {R : Relation} (w 
 
   -- a call of a function
   pub body-closed : (k : ℕ) (u u' : Below) → Alike k u u' → (f : TypedFunction) (vs : List Worth) (line : ℕ) → R (suc k) (suc k) Worth (call_body b u f vs line) (call_body c u' f vs line)
-  body-closed k u u' h f vs line = w.seq (w.acts line BeginsBody tt) (λ x. w.seq (params-way line f.params vs) (λ x. w.seq (runs-way k u u' h f.body) (λ fl. w.seq (end-way f.params) (λ x. w.seq (w.acts line EndsBody tt) (λ x. w.gives (value_by b f fl))))))
+  body-closed k u u' h f vs line = w.seq (w.acts line (BeginsBody f.name line) tt) (λ x. w.seq (params-way line f.params vs) (λ x. w.seq (runs-way k u u' h f.body) (λ fl. w.seq (end-way f.params) (λ x. w.seq (w.acts line EndsBody tt) (λ x. w.gives (value_by b f fl))))))
 
   -- one level up
   pub level-closed : (k i i' : ℕ) → Alike k (below b i) (below c i') → Alike (suc k) (below b (suc i)) (below c (suc i'))
-  unfolding below
+  unfolding below_by
   level-closed k i i' h =
       let u : Below = below b i in
       let u' : Below = below c i' in
@@ -203,7 +201,7 @@ module _ (b : Setting) (n : ℕ) (sides : Option (List Bool)) {R : Relation} (w 
 
   -- where nothing may begin any more
   pub even-closed : ((A : Type 0) → R 0 0 A (λ s. Stops Unreached s) (λ s. Stops Unreached s)) → (k : ℕ) → Alike k (below b k) (below c k)
-  unfolding below
+  unfolding below_by
   even-closed h zero = record { call = λ f vs line. h Worth; again = λ x step y. h Flow; again_do = λ y x. h Flow }
   even-closed h (suc k) = level-closed k k k (even-closed h k)
 

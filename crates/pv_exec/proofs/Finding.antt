@@ -12,7 +12,8 @@ use Rattle.pv_eval.specs.States.{Setting, State, then_do}
 use Rattle.pv_exec.specs.Flows.{Below, falls}
 use Rattle.pv_exec.specs.Labels.{Target, ToCase, ToDefault, ToNone, is_target, target_of}
 use Rattle.pv_exec.specs.LabelParts.{some_case, some_default}
-use Rattle.pv_exec.specs.Execution.{ex, exs, exs_at}
+use Rattle.pv_exec.specs.Execution.{ex_by}
+use Rattle.pv_exec.specs.OfRuns.{ex, exs, exs_at}
 use Rattle.pv_exec.specs.Tasks.{statements_from}
 use Rattle.pv_exec.specs.Items.{declared_in}
 use Rattle.pv_exec.specs.Switches.{some_target, is_none_target, Finds, Reaches}
@@ -41,7 +42,7 @@ pub some-end : (u : Stored) (l : ListId) (at : Target) (i : ℕ) → drop i (lis
 some-end u l at i e = ap (λ ns. some_target at (statements_in (nodes u) ns)) e ∙ some-none at u
 
 pub at-no : (b : Setting) (w : Below) (u : Stored) (l : ListId) (at : Target) (i j : ℕ) (n : NodeId) (s : State) → drop i (list_at u l) ≡ n ∷ drop j (list_at u l) → is_target at (statement_at u n) ≡ false → exs_at b w at (statements_from u l i) s ≡ exs_at b w at (statements_from u l j) s
-unfolding ex
+unfolding ex_by
 at-no b w u l at i j n s e h =
     ap (λ ns. exs_at b w at (statements_in (nodes u) ns) s) e
     ∙ ap (λ (q : Bool). if q then then_do (ex b w (statement_at u n) s) (λ fl s. falls fl (λ s. exs b w (statements_from u l j) s) s) else exs_at b w at (statements_from u l j) s) h
@@ -67,7 +68,7 @@ plain-target at (Break line) h = refl
 plain-target at (Return line x) h = refl
 
 pub at-yes : (b : Setting) (w : Below) (u : Stored) (l : ListId) (at : Target) (i j : ℕ) (n : NodeId) (s : State) → drop i (list_at u l) ≡ n ∷ drop j (list_at u l) → is_target at (statement_at u n) ≡ true → exs_at b w at (statements_from u l i) s ≡ exs b w (statements_from u l i) s
-unfolding ex
+unfolding ex_by
 at-yes b w u l at i j n s e h =
     ap (λ ns. exs_at b w at (statements_in (nodes u) ns) s) e
     ∙ ap (λ (q : Bool). if q then then_do (ex b w (statement_at u n) s) (λ fl s. falls fl (λ s. exs b w (statements_from u l j) s) s) else exs_at b w at (statements_from u l j) s) h

@@ -27,7 +27,8 @@ use Rattle.pv_eval.specs.Operations.{Finds, Asks, Converts, Calculates, Calculat
 use Rattle.pv_eval.specs.Sequenced.{Given, with_given}
 use Rattle.pv_eval.specs.Steps.{Calling, source_of, is_unequal, is_minus, is_after}
 use Rattle.pv_eval.specs.Arguments.{argument}
-use Rattle.pv_eval.specs.Evaluation.{ev, ev_call, ev_through, ev_ask}
+use Rattle.pv_eval.specs.Evaluation.{ev_by, ev}
+use Rattle.pv_eval.specs.OfRuns.{ev_call, ev_through, ev_ask}
 use Rattle.pv_eval.specs.CalleeParts.{function_in}
 use Rattle.pv_eval.specs.Frames.{second_after, both_after, later_after, first_after, argument_at, arguments_from, asked_with, argument_after, stage_after, frame_after, after, callee_of, passed_of}
 use Rattle.pv_eval.specs.Stack.{rest}
@@ -50,17 +51,17 @@ module _ (b : Setting) (n : ℕ) (sides : Option (List Bool)) {R : Relation} (w 
 
   -- the arguments that are left, and the call
   call-closed : (line f : ℕ) (got : List Worth) (xs : Arguments) (j : Open) → R k k Given (ev_call b call line f got xs j) (ev_call c call' line f got xs j)
-  unfolding ev
+  unfolding ev_by
   call-closed line f got NoArguments j = w.seq (h f got line) (done-way b n sides w (sequence_point j))
   call-closed line f got (MoreArguments x xs) j = operand-way b n sides w j (within x) (λ j v. w.seq (handed-way b n sides w x v) (λ v. call-closed line f (got ++ v ∷ []) xs j))
 
   through-closed : (line : ℕ) (t : Ty) (p : Worth) (got : List Worth) (xs : Arguments) (j : Open) → R k k Given (ev_through b call line t p got xs j) (ev_through c call' line t p got xs j)
-  unfolding ev
+  unfolding ev_by
   through-closed line t p got NoArguments j = w.seq (w.acts line (Finds t p) tt) (λ f. w.seq (h (function_in f) got line) (done-way b n sides w (sequence_point j)))
   through-closed line t p got (MoreArguments x xs) j = operand-way b n sides w j (within x) (λ j v. w.seq (handed-way b n sides w x v) (λ v. through-closed line t p (got ++ v ∷ []) xs j))
 
   ask-closed : (line : ℕ) (f : Library) (got : List Arg) (xs : Arguments) (j : Open) → R k k Given (ev_ask b call line f got xs j) (ev_ask c call' line f got xs j)
-  unfolding ev
+  unfolding ev_by
   ask-closed line f got NoArguments j = work-way b n sides w line (Asks f got) tt (sequence_point j)
   ask-closed line f got (MoreArguments x xs) j = operand-way b n sides w j (within x) (λ j v. w.seq (handed-way b n sides w x v) (λ v. ask-closed line f (got ++ argument x v ∷ []) xs j))
 

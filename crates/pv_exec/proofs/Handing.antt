@@ -25,9 +25,9 @@ use Rattle.pv_exec.specs.declared.task.Task.TheVariants as task
 use Rattle.pv_exec.specs.declared.task.Doing.TheVariants as doing
 use Rattle.pv_exec.specs.declared.task.Flow.TheVariants as flow
 use Rattle.pv_exec.specs.Entering.{behind_turn, is_labelled}
-use Rattle.pv_exec.specs.Flows.{Returns, full_expression}
+use Rattle.pv_exec.specs.Flows.{Returns}
+use Rattle.pv_exec.specs.OfRuns.{full_expression, below}
 use Rattle.pv_exec.specs.Tasks.{Reached, Left, left_flow, after_value, returned_of}
-use Rattle.pv_exec.specs.Calls.{below}
 use Rattle.pv_exec.specs.Works.{does, after_work, Standing}
 use Rattle.pv_exec.specs.Turning.{AtOnceLed, CutBefore}
 use Rattle.pv_exec.proofs.Bounds.{holds-out}

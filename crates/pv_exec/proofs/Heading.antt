@@ -21,8 +21,8 @@ use Rattle.pv_exec.specs.declared.task.Doing.{Doing}
 use Rattle.pv_exec.specs.declared.task.Doing.TheVariants as doing
 use Rattle.pv_exec.specs.Flows.{Flow, Falls, Returns, Below}
 use Rattle.pv_exec.specs.Labels.{target_of}
-use Rattle.pv_exec.specs.Execution.{ex}
-use Rattle.pv_exec.specs.Calls.{below, value_by}
+use Rattle.pv_exec.specs.OfRuns.{ex, below}
+use Rattle.pv_exec.specs.Calls.{value_by}
 use Rattle.pv_exec.specs.Parts.{Loop, loop_of, rounds, stepped_on, rest_of_loop, loop_from_test, line_of_condition, DoLoop, do_of, rounded_do, tested_do, Choice, choice_of, other_side, branch_of, Selection, selection_of, selection_jump}
 use Rattle.pv_exec.specs.Tasks.{Reached, Left, Valued, left_flow, statements_from, return_with, returned_of, stored_value, rest_of_stores, declarations_of, within, after_flow, after_value, takes_value, after_task}
 use Rattle.pv_exec.specs.Works.{flow_of, does}

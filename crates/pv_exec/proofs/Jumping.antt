@@ -14,10 +14,8 @@ use Rattle.pv_exec.specs.declared.task.Task.TheVariants as task
 use Rattle.pv_exec.specs.declared.task.Doing.TheVariants as doing
 use Rattle.pv_exec.specs.declared.task.Way.TheVariants as way
 use Rattle.pv_exec.specs.Flows.{Flow, Falls}
-use Rattle.pv_exec.specs.Blocks.{in_block}
+use Rattle.pv_exec.specs.OfRuns.{in_block, exs, below}
 use Rattle.pv_exec.specs.Lists.{make_all}
-use Rattle.pv_exec.specs.Execution.{exs}
-use Rattle.pv_exec.specs.Calls.{below}
 use Rattle.pv_exec.specs.Tasks.{Left, left_flow, statements_from}
 use Rattle.pv_exec.specs.Works.{does}
 use Rattle.pv_exec.specs.Leading.{Leads, LeadsOr}

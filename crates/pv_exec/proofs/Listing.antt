@@ -15,10 +15,10 @@ use Rattle.pv_exec.specs.declared.task.Task.TheVariants as task
 use Rattle.pv_exec.specs.declared.task.Doing.TheVariants as doing
 use Rattle.pv_exec.specs.declared.task.Way.TheVariants as way
 use Rattle.pv_exec.specs.declared.lists.Item.TheVariants as item
-use Rattle.pv_exec.specs.Flows.{Flow, Falls, Below, falls, nothing_done, begin_fill, declares}
+use Rattle.pv_exec.specs.Flows.{Flow, Falls, Below, falls, nothing_done}
+use Rattle.pv_exec.specs.OfRuns.{begin_fill, declares, ex, exs, below}
 use Rattle.pv_exec.specs.Lists.{store_all}
-use Rattle.pv_exec.specs.Execution.{ex, exs}
-use Rattle.pv_exec.specs.Calls.{below}
+use Rattle.pv_exec.specs.Execution.{ex_by}
 use Rattle.pv_exec.specs.Parts.{loop_of, rounds}
 use Rattle.pv_exec.specs.Tasks.{Reached, Left, left_flow, statements_from, declarations_of, within, after_flow, after_task}
 use Rattle.pv_exec.specs.Works.{does}
@@ -28,7 +28,7 @@ use Rattle.pv_exec.proofs.Pieces.{lifted, pushed}
 
 -- a statement that is no declaration
 pub plain-first : (b : Setting) (w : Below) (x : TypedStatement) (xs : Statements) (s : State) → declared_in x ≡ None → exs b w (MoreStatements x xs) s ≡ then_do (ex b w x s) (λ fl s. falls fl (λ s. exs b w xs s) s)
-unfolding ex
+unfolding ex_by
 plain-first b w (Block line os ys) xs s e = refl
 plain-first b w (Declare line o) xs s e = absurd (cc)
 plain-first b w (Expression line x) xs s e = refl
@@ -48,7 +48,7 @@ plain-first b w (Return line x) xs s e = refl
 
 -- a declaration
 declared-first : (b : Setting) (w : Below) (x : TypedStatement) (o : ℕ) (xs : Statements) (s : State) → declared_in x ≡ Some o → exs b w (MoreStatements x xs) s ≡ then_do (declares b w.call o (object_at b.unit o) s) (λ fl s. exs b w xs s)
-unfolding ex
+unfolding ex_by
 declared-first b w (Declare line o) p xs s e =
     let q : o ≡ p = cc in
     ap (λ n. then_do (declares b w.call n (object_at b.unit n) s) (λ fl s. exs b w xs s)) q
@@ -70,7 +70,7 @@ declared-first b w (Return line x) o xs s e = absurd (cc)
 
 -- the end of a list
 pub list-end : (b : Setting) (w : Below) (u : Stored) (l : ListId) (i : ℕ) (s : State) → drop i (list_at u l) ≡ [] → exs b w (statements_from u l i) s ≡ Gives Falls s
-unfolding ex
+unfolding ex_by
 list-end b w u l i s e = ap (λ ns. exs b w (statements_in (nodes u) ns) s) e
 
 pub list-plain : (b : Setting) (w : Below) (u : Stored) (l : ListId) (i j : ℕ) (n : NodeId) (s : State) → drop i (list_at u l) ≡ n ∷ drop j (list_at u l) → declared_in (statement_at u n) ≡ None → exs b w (statements_from u l i) s ≡ item_does b w u l (item.Statement n j) s

@@ -13,9 +13,9 @@ use Rattle.pv_eval.specs.Moments.{Tested}
 use Rattle.pv_eval.specs.Operations.{Tests, act}
 use Rattle.pv_eval.specs.Sequenced.{Given}
 use Rattle.pv_eval.specs.States.{Setting, State, Res, Gives, Stops, then_do}
-use Rattle.pv_exec.specs.Calls.{below}
-use Rattle.pv_exec.specs.Execution.{ex}
-use Rattle.pv_exec.specs.Flows.{Falls, Returns, Below, full_expression, then_step, if_tested}
+use Rattle.pv_exec.specs.Calls.{below_by}
+use Rattle.pv_exec.specs.OfRuns.{below, ex, full_expression, then_step, if_tested}
+use Rattle.pv_exec.specs.Flows.{Falls, Returns, Below}
 use Rattle.pv_world.specs.Worlds.{Worth}
 use Rattle.pv_world.specs.Worths.{is_true, truth_int}
 use Rattle.pv_eval.specs.declared.failure.Failure.{Failure}
@@ -91,7 +91,7 @@ round-condition b u k n c s e =
 
 -- a further round is one level lower, where the turns taken are within the bound
 pub again-leads : (b : Setting) (u : Stored) (k : ℕ) (n : NodeId) (s : State) (old es : List Started) (r : Result Way Failure) → s.taken ≤ b.bound → b.bound < s.taken + k → ((k : ℕ) → b.bound < s.taken + k + 1 → LeadsOr b u (left_flow (rounds b (below b k) (loop_of (statement_at u n)) s)) old r es s) → LeadsOr b u (left_flow ((below b k).again (loop_of (statement_at u n)).condition (loop_of (statement_at u n)).step (loop_of (statement_at u n)).body s)) old r es s
-unfolding below
+unfolding below_by
 again-leads b u zero n s old es r le lt h = absurd (omega (arith, le, lt))
 again-leads b u (suc k) n s old es r le lt h = h k (omega (arith, lt))
 

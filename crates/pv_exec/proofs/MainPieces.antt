@@ -19,9 +19,8 @@ use Rattle.pv_exec.specs.declared.once.Last.{Last}
 use Rattle.pv_exec.specs.declared.once.Last.TheVariants as last
 use Rattle.pv_exec.specs.declared.task.Doing.{Doing}
 use Rattle.pv_exec.specs.declared.task.Flow.{Flow}
-use Rattle.pv_exec.specs.Calls.{below, runs_body}
+use Rattle.pv_exec.specs.OfRuns.{below, runs_body, prepare}
 use Rattle.pv_exec.specs.Called.{body_beginning, BodyIs}
-use Rattle.pv_exec.specs.Preparing.{prepare}
 use Rattle.pv_exec.specs.Tasks.{left_flow}
 use Rattle.pv_exec.specs.declared.delivering.Undelivered.TheVariants as undelivered
 use Rattle.pv_exec.specs.Streaming.{DeliveryCause}

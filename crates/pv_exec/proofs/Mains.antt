@@ -21,11 +21,9 @@ use Rattle.pv_exec.specs.declared.running.Ended.{Ended}
 use Rattle.pv_exec.specs.declared.running.Broken.{Broken}
 use Rattle.pv_exec.specs.declared.running.Broken.TheVariants as broken
 use Rattle.pv_exec.specs.Flows as execution
-use Rattle.pv_exec.specs.Blocks.{end_all}
-use Rattle.pv_exec.specs.Calls.{below, take_params, runs_body, call_body, value_by}
+use Rattle.pv_exec.specs.OfRuns.{end_all, below, take_params, runs_body, call_body, prepare, call_main}
+use Rattle.pv_exec.specs.Calls.{value_by}
 use Rattle.pv_exec.specs.Called.{body_beginning, BodyIs}
-use Rattle.pv_exec.specs.Preparing.{prepare}
-use Rattle.pv_exec.specs.Run.{call_main}
 use Rattle.pv_exec.specs.Tasks.{Reached, Left, Valued, left_flow}
 use Rattle.pv_exec.specs.Works.{flow_of, does, Holds}
 use Rattle.pv_exec.specs.Fits.{Runs}
@@ -116,7 +114,7 @@ end-lost b f line fl m out es = begins-all out es m (end_of (ends_call b f line 
 pub main-split : (b : Setting) (f line : ℕ) (s : State) → call_body b (below b b.bound) (function_at b.unit f) [] line s ≡ then_do (body_beginning b line (function_at b.unit f) [] s) (λ x s. then_do (runs_body b (below b b.bound) (function_at b.unit f).body s) (left_by b f line))
 main-split b f line s =
     let F = function_at b.unit f in
-    then-then (act b line BeginsBody s) (λ x s. take_params b line F.params [] s) (λ x s. then_do (runs_body b (below b b.bound) F.body s) (left_by b f line))
+    then-then (act b line (BeginsBody F.name line) s) (λ x s. take_params b line F.params [] s) (λ x s. then_do (runs_body b (below b b.bound) F.body s) (left_by b f line))
 
 -- as the code begins it
 begun-here : (b : Setting) (u : Stored) (f line : ℕ) (s : State) → b.unit ≡ whole_unit u → line ≡ (function_at b.unit f).line → body_beginning b (function_at b.unit f).line (function_at b.unit f) [] s ≡ body_beginning b line (function_at (whole_unit u) f) [] s

@@ -6,7 +6,7 @@ use Rattle.pv_typed.specs.TypedUnits.{object_at}
 use Rattle.pv_eval.specs.Moments.{Made}
 use Rattle.pv_eval.specs.Operations.{Makes, Ends, act}
 use Rattle.pv_eval.specs.States.{Setting, State, Res, Gives, then_do}
-use Rattle.pv_exec.specs.Blocks.{end_all}
+use Rattle.pv_exec.specs.OfRuns.{end_all}
 use Rattle.pv_exec.specs.Lists.{make_all}
 use Rattle.pv_world.specs.Worlds.{Worth, Nothing}
 use Rattle.pv_eval.specs.declared.failure.Failure.{Failure}

@@ -13,7 +13,7 @@ use Rattle.pv_exec.specs.declared.task.Doing.TheVariants as doing
 use Rattle.pv_exec.specs.declared.task.Way.{Way}
 use Rattle.pv_exec.specs.declared.task.Way.TheVariants as way
 use Rattle.pv_exec.specs.Flows.{Flow, Falls}
-use Rattle.pv_exec.specs.Calls.{below}
+use Rattle.pv_exec.specs.OfRuns.{below}
 use Rattle.pv_exec.specs.Parts.{loop_of, rounds}
 use Rattle.pv_exec.specs.Tasks.{Reached, left_flow, after_flow}
 use Rattle.pv_exec.specs.Works.{does, due, others}

@@ -18,10 +18,9 @@ use Rattle.pv_eval.specs.Machines.{Machine, Started}
 use Rattle.pv_exec.specs.declared.task.Task.{Task}
 use Rattle.pv_exec.specs.declared.task.Doing.TheVariants as doing
 use Rattle.pv_exec.specs.Entering.{behind_turn, is_labelled}
-use Rattle.pv_exec.specs.Execution.{exs}
+use Rattle.pv_exec.specs.OfRuns.{exs, below}
 use Rattle.pv_exec.specs.Parts.{Items, items_of}
 use Rattle.pv_exec.specs.Tasks.{Reached, left_flow}
-use Rattle.pv_exec.specs.Calls.{below}
 use Rattle.pv_exec.specs.Works.{does, after_work, Standing}
 use Rattle.pv_exec.specs.Turning.{AtOnceLed}
 use Rattle.pv_exec.proofs.Pieces.{turned}

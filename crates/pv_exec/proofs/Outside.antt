@@ -22,7 +22,7 @@ use Rattle.pv_exec.specs.declared.running.Ended.TheVariants as ended
 use Rattle.pv_exec.specs.declared.running.Broken.{Broken}
 use Rattle.pv_exec.specs.declared.running.Broken.TheVariants as broken
 use Rattle.pv_eval.specs.declared.failure.Failure.TheVariants as failure
-use Rattle.pv_exec.specs.Run.{setting_of, run_of, outcome_of, sides_at}
+use Rattle.pv_exec.specs.Run.{setting_of, run_of_by, run_of, outcome_of, sides_at}
 use Rattle.pv_exec.specs.declared.delivering.Undelivered.TheVariants as undelivered
 use Rattle.pv_exec.specs.declared.program.RunError.TheVariants as error
 use Rattle.pv_exec.specs.Streaming.{IsFar, FirstTold, FirstWritten, BlockPart, Streams, Begins}
@@ -147,7 +147,7 @@ over r (Err (broken.Operation failure.NoMemory)) o m out es e h = absurd (cc)
 over r (Err (broken.Delivery y)) o m out es e h = absurd (cc)
 
 pub run-over : {o o' : Outlet} (u : Stored) (n : ℕ) (sides : Option (List Bool)) (zap : Bool) (script : List ScriptLine) (old new : Machine) (x : Result Ended Broken) → old ≡ first_machine script sides zap → (led : PieceLed u o o' n whole_run x old new) → EndedIs (run_of (setting_of u n sides zap) script) x new.moment led.bytes led.events
-unfolding run_of
+unfolding run_of_by
 run-over u n sides zap script old new x is led =
     let b = setting_of u n sides zap in
     let set : IsSetting b u old.moment = record { unit = refl; types = refl; sides = sym (ap (λ (m : Machine). m.moment.sides) is) } in
@@ -168,6 +168,7 @@ ran-as R o m out es (Ok ran) v h = record {
   outcome = v.outcome ∙ ap Some (sym h.outcome);
   turns = h.turns ∙ sym (ap (λ (s : State). s.taken) v.end);
   sides = h.sides ∙ sym (ap (λ (s : State). map side_of (sides_at s)) v.end);
+  world = h.world ∙ sym (ap (λ (s : State). s.world) v.end);
 }
 
 over-output : (R : Res Worth) (o : Outcome) (m : Moment) (out : List ℕ) (es : List Marked) → Over R o (state_of m out es) → out ++ m.printed ≡ (end_of R).output
@@ -267,7 +268,7 @@ behind-stage u sides zap script (suc n) =
     each-weaker (IsUpto s.taken (length s.output)) (IsBehind (length s.output)) s.events (λ x q. q.1) (within-bound u n sides zap script).events
 
 staged-run : (u : Stored) (n : ℕ) (sides : Option (List Bool)) (zap : Bool) (script : List ScriptLine) (old : Machine) → old ≡ first_machine script sides zap → IsStaged (PieceCut (setting_of u n sides zap) whole_run old) (stage_of u sides zap script)
-unfolding run_of
+unfolding run_of_by
 staged-run u n sides zap script old is = record {
   output = refl;
   events = refl;

@@ -12,7 +12,7 @@ use Rattle.pv_eval.specs.States.{Setting, State, Res, Gives, then_do}
 use Rattle.pv_eval.specs.TypeForms.{lvalue}
 use Rattle.pv_eval.specs.Operations.{Makes, Puts, BeginsBody, act}
 use Rattle.pv_eval.specs.Moments.{Made}
-use Rattle.pv_exec.specs.Calls.{take_params}
+use Rattle.pv_exec.specs.OfRuns.{take_params}
 use Rattle.pv_exec.specs.Called.{takes_one, body_beginning}
 use Rattle.pv_exec.proofs.Pieces.{made-stops, made-is, then-then}
 use Rattle.pv_exec.proofs.Inits.{mapped-at}
@@ -51,7 +51,7 @@ pub no-arguments : (b : Setting) (line : ℕ) (ps : List ℕ) (vs : List Worth) 
 no-arguments b line ps vs s e = ap (λ xs. take_params b line ps xs s) e ∙ no-values b line ps s
 
 -- what comes before the body
-pub begun-by : (b : Setting) (line : ℕ) (f : TypedFunction) (vs : List Worth) (r : Result (Unit {0}) Failure) (s s1 s2 : State) → act b line BeginsBody s ≡ Gives Nothing s1 → Made (take_params b line f.params vs s1) r s2 → Made (body_beginning b line f vs s) r s2
+pub begun-by : (b : Setting) (line : ℕ) (f : TypedFunction) (vs : List Worth) (r : Result (Unit {0}) Failure) (s s1 s2 : State) → act b line (BeginsBody f.name line) s ≡ Gives Nothing s1 → Made (take_params b line f.params vs s1) r s2 → Made (body_beginning b line f vs s) r s2
 begun-by b line f vs r s s1 s2 h m =
     made-is (take_params b line f.params vs s1) (body_beginning b line f vs s) r s2 (ap (λ (q : Res Worth). then_do q (λ x s. take_params b line f.params vs s)) h) m
 

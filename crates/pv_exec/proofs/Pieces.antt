@@ -4,7 +4,8 @@ use Rattle.pv_eval.specs.Moments.{Made}
 use Rattle.pv_eval.specs.MachineSteps.{KeepsSetting}
 use Rattle.pv_eval.specs.Moments.{Moment, IsSetting, Stays, Follows}
 use Rattle.pv_eval.specs.States.{Setting, State, Res, Gives, Stops, then_do, tick}
-use Rattle.pv_exec.specs.Execution.{ex}
+use Rattle.pv_exec.specs.Execution.{ex_by}
+use Rattle.pv_exec.specs.OfRuns.{ex}
 use Rattle.pv_exec.specs.Flows.{Flow, Below}
 use Rattle.pv_world.specs.Worlds.{Worth, Nothing}
 use Rattle.pv_typed.specs.TypedStatement.{TypedStatement, Block, Declare, Expression, Empty, If, IfElse, Switch, Case, Default, While, DoWhile, For, ForDeclaration, Continue, Break, Return}
@@ -33,7 +34,7 @@ then-then (Stops y s) f g = refl
 
 -- every statement that is not labelled takes a turn first
 pub turned : (b : Setting) (w : Below) (x : TypedStatement) (s : State) → is_labelled x ≡ false → ex b w x s ≡ tick b s (behind_turn b w x)
-unfolding ex
+unfolding ex_by
 turned b w (Block line os xs) s e = refl
 turned b w (Declare line o) s e = refl
 turned b w (Expression line x) s e = refl
@@ -83,11 +84,11 @@ made-is r q x s e h = subst (λ z. Made z x s) (sym e) h
 
 -- 6.8.1
 pub case-same : (b : Setting) (w : Below) (x y : TypedStatement) (line : ℕ) (v : ℤ) (s : State) → x ≡ Case line v y → ex b w x s ≡ ex b w y s
-unfolding ex
+unfolding ex_by
 case-same b w x y line v s e = ap (λ z. ex b w z s) e
 
 pub default-same : (b : Setting) (w : Below) (x y : TypedStatement) (line : ℕ) (s : State) → x ≡ Default line y → ex b w x s ≡ ex b w y s
-unfolding ex
+unfolding ex_by
 default-same b w x y line s e = ap (λ z. ex b w z s) e
 
 pub made-ok : (r : Result (Unit {0}) Failure) (m : Res Worth) (s : State) → is_err r ≡ false → Made m r s → m ≡ Gives Nothing s

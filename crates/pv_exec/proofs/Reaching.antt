@@ -20,7 +20,7 @@ use Rattle.pv_eval.specs.Operations.{Puts, does}
 use Rattle.pv_eval.proofs.Closed.{beside_setting}
 use Rattle.pv_exec.specs.declared.outcome.Outcome.{Outcome}
 use Rattle.pv_exec.specs.declared.outcome.Outcome.TheVariants as outcome
-use Rattle.pv_exec.specs.Run.{setting_of, initial_state, run_of, outcome_of, outcome_of_stop, outcome_of_refusal}
+use Rattle.pv_exec.specs.Run.{setting_of, initial_state, run_of_by, run_of, outcome_of, outcome_of_stop, outcome_of_refusal}
 use Rattle.pv_exec.specs.Laws.{IsUpto, IsWithin, TakesAll, run_at}
 use Rattle.pv_exec.proofs.Executed.{WaysIn, even-closed, run-closed}
 use Rattle.pv_exec.proofs.Growing.{each-append, each-weaker}
@@ -102,7 +102,7 @@ fitting b = record {
 }
 
 pub run-fits : (u : Stored) (n : ℕ) (sides : Option (List Bool)) (zap : Bool) (script : List ScriptLine) → EndFits n (suc n) (run_at u sides zap script n)
-unfolding run_of
+unfolding run_of_by
 run-fits u n sides zap script =
     let b = setting_of u n sides zap in
     run-closed b n sides (fitting b) n (even-closed b n sides (fitting b).ways (λ A s h r. absurd (omega (arith, h.taken, r))) n) (initial_state script zap) (record { taken = omega arith; events = tt }) (omega arith)

@@ -15,7 +15,7 @@ use Rattle.pv_typed.specs.TypedUnits.{Store, StoredValue, ValueOf, TextOf}
 use Rattle.pv_eval.specs.TypeForms.{lvalue, size_of}
 use Rattle.pv_eval.specs.Operations.{Puts, PutsText, act}
 use Rattle.pv_eval.specs.Constants.{constant_worth}
-use Rattle.pv_exec.specs.Preparing.{prepare, store_constant, store_static}
+use Rattle.pv_exec.specs.OfRuns.{prepare, store_constant, store_static}
 use Rattle.pv_exec.specs.Lists.{make_statics, make_literals, make_functions, initialize_statics}
 use Rattle.pv_exec.proofs.Pieces.{made-stops, made-is}
 

@@ -13,7 +13,7 @@ use Rattle.pv_eval.specs.declared.failure.Failure.TheVariants as failure
 use Rattle.pv_eval.specs.States.{Setting, State, Res, Gives, then_do}
 use Rattle.pv_eval.specs.Moments.{Came}
 use Rattle.pv_eval.specs.Operations.{Accepts, act}
-use Rattle.pv_eval.specs.Steps.{with_conversion}
+use Rattle.pv_eval.specs.OfRuns.{with_conversion}
 use Rattle.pv_eval.specs.Machines.{Started}
 use Rattle.pv_exec.specs.declared.task.Task.TheVariants as task
 use Rattle.pv_exec.specs.Flows.{Falls, Returns}

@@ -23,11 +23,11 @@ use Rattle.pv_exec.specs.declared.task.Task.{Task}
 use Rattle.pv_exec.specs.declared.task.Task.TheVariants as task
 use Rattle.pv_exec.specs.declared.task.Doing.{Doing}
 use Rattle.pv_exec.specs.declared.task.Doing.TheVariants as doing
-use Rattle.pv_exec.specs.Flows.{full_expression}
+use Rattle.pv_exec.specs.OfRuns.{full_expression, below}
 use Rattle.pv_exec.specs.Parts.{Loop, loop_of, line_of_condition}
 use Rattle.pv_exec.specs.Read.{IsRound, IsStep, round_side}
 use Rattle.pv_exec.specs.Tasks.{Reached, left_flow, after_value}
-use Rattle.pv_exec.specs.Calls.{below}
+use Rattle.pv_exec.specs.Calls.{below_by}
 use Rattle.pv_exec.specs.Works.{does, due, others, after_work, Work, Standing}
 use Rattle.pv_exec.specs.Fits.{DoingFits}
 use Rattle.pv_exec.specs.Turning.{AtOnceLed, CutBefore}
@@ -124,7 +124,7 @@ module _ (u : Stored) (p : RoundParts) (t : Bool) (ts : List Task) (old new : Ma
   line = line_of_condition (loop_of (statement_at u p.statement)).condition
 
   round-enters : (b : Setting) (k : ℕ) (es : List Started) (s : State) → does b u (suc k) es (doing.Round p) s ≡ then_do (full_expression b (below b k).call (expression_at u p.condition) s) (after_value b u k (task.Tested p.statement))
-  unfolding does below
+  unfolding does below_by
   round-enters b k es s = round-condition b u k p.statement p.condition s form
 
   side-is : (b : Setting) (k : ℕ) (es : List Started) (v : Worth) (s : State) (q : Bool) → act b line (Tests v) s ≡ Gives (truth_int q) s → after_value b u k (task.Tested p.statement) v s ≡ does b u k es (round_side p q) s

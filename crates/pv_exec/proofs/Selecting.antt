@@ -12,7 +12,7 @@ use Rattle.pv_eval.specs.declared.failure.Failure.{Failure}
 use Rattle.pv_eval.specs.declared.failure.Failure.TheVariants as failure
 use Rattle.pv_eval.specs.States.{Setting, State, Res, Gives, Stops, Turns, then_do, tick, spend}
 use Rattle.pv_eval.specs.Operations.{Needs, act}
-use Rattle.pv_eval.specs.Steps.{with_conversion}
+use Rattle.pv_eval.specs.OfRuns.{with_conversion}
 use Rattle.pv_eval.specs.Machines.{Started}
 use Rattle.pv_eval.specs.Moments.{Needed}
 use Rattle.pv_exec.specs.declared.switches.SwitchParts.{SwitchParts}
@@ -22,11 +22,9 @@ use Rattle.pv_exec.specs.declared.task.Flow.TheVariants as code_flow
 use Rattle.pv_exec.specs.declared.task.Way.{Way}
 use Rattle.pv_exec.specs.declared.task.Way.TheVariants as way
 use Rattle.pv_exec.specs.Flows.{Flow, Falls, Below, behind_switch}
-use Rattle.pv_exec.specs.Blocks.{end_all, in_block}
+use Rattle.pv_exec.specs.OfRuns.{end_all, in_block, exs, exs_at, below}
 use Rattle.pv_exec.specs.Lists.{make_all}
 use Rattle.pv_exec.specs.Labels.{Target, ToCase, ToDefault, ToNone, target_of, unless_none}
-use Rattle.pv_exec.specs.Execution.{exs, exs_at}
-use Rattle.pv_exec.specs.Calls.{below}
 use Rattle.pv_exec.specs.Parts.{Items, selection_of, selection_jump, jumps}
 use Rattle.pv_exec.specs.Tasks.{Left, left_flow, statements_from, after_flow, after_value, after_task}
 use Rattle.pv_exec.specs.Works.{does}

@@ -6,7 +6,7 @@ use Rattle.pv_eval.specs.Machines.{left_of, answered_of, given_by, ended_value, 
 use Rattle.pv_eval.specs.MachineSteps.{Stepped}
 use Rattle.pv_eval.specs.Sequenced.{Given}
 use Rattle.pv_eval.specs.States.{Setting, State, Res, Gives, then_do}
-use Rattle.pv_exec.specs.Calls.{below}
+use Rattle.pv_exec.specs.OfRuns.{below}
 use Rattle.pv_eval.specs.declared.failure.Failure.{Failure}
 use Rattle.pv_eval.specs.declared.failure.Failure.TheVariants as failure
 use Rattle.pv_eval.specs.Machines.{Started}

@@ -18,16 +18,17 @@ use Rattle.pv_eval.specs.declared.marked.Marked.{Marked}
 use Rattle.pv_exec.specs.Putting.{put_first}
 use Rattle.pv_eval.specs.TypeForms.{lvalue, size_of}
 use Rattle.pv_eval.specs.Operations.{Accepts, Puts, PutsText, act}
-use Rattle.pv_eval.specs.Steps.{Calling, with_conversion, accepted_value}
+use Rattle.pv_eval.specs.Steps.{Calling}
+use Rattle.pv_eval.specs.OfRuns.{with_conversion, accepted_value}
 use Rattle.pv_eval.specs.Machines.{Started}
 use Rattle.pv_exec.specs.declared.task.Task.TheVariants as task
 use Rattle.pv_exec.specs.declared.task.Doing.{Doing}
 use Rattle.pv_exec.specs.declared.task.Doing.TheVariants as doing
 use Rattle.pv_exec.specs.declared.task.Way.{Way}
 use Rattle.pv_exec.specs.declared.task.Way.TheVariants as way
-use Rattle.pv_exec.specs.Flows.{Flow, Falls, full_expression, stores_value}
+use Rattle.pv_exec.specs.Flows.{Flow, Falls}
+use Rattle.pv_exec.specs.OfRuns.{full_expression, stores_value, below}
 use Rattle.pv_exec.specs.Lists.{store_all}
-use Rattle.pv_exec.specs.Calls.{below}
 use Rattle.pv_exec.specs.Tasks.{Reached, left_flow, after_value, rest_of_stores, stored_value}
 use Rattle.pv_exec.specs.Works.{does, others}
 use Rattle.pv_exec.specs.Leading.{Leads, LeadsOr}

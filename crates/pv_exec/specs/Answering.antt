@@ -25,7 +25,8 @@ use Rattle.pv_exec.specs.declared.running.Ended.{Ended}
 use Rattle.pv_exec.specs.declared.running.Broken.{Broken}
 use Rattle.pv_exec.specs.declared.running.Broken.TheVariants as broken
 use Rattle.pv_exec.specs.Run.{setting_of, run_of, outcome_of, sides_at}
-use Rattle.pv_exec.specs.Outlets.{Outlet, event_of, hall_slots, ToldPart}
+use Rattle.pv_watch.specs.Halls.{hall_slots}
+use Rattle.pv_exec.specs.Outlets.{Outlet, event_of, ToldPart}
 use Rattle.pv_exec.specs.Stages.{LetOut}
 use Rattle.pv_exec.specs.Sided.{side_of, is_high}
 
@@ -34,17 +35,19 @@ abbrev pub highs : {R : Type 0} → Option R → (R → List Side) → Option (L
 highs None view = None
 highs (Some r) view = Some (map is_high (view r))
 
--- how it ended (5.1.2.2.3p1), at which turn, and on which side each pair of candidates stands (the memory model)
+-- how it ended (5.1.2.2.3p1), at which turn, on which side each pair of candidates stands (the memory model), and in which world
 pub record RanAs (r : Res Worth) (ran : Ran) : Type 0 where
   pub outcome : outcome_of r ≡ Some ran.outcome
   pub turns : ran.turns ≡ (end_of r).taken
   pub sides : ran.sides ≡ map side_of (sides_at (end_of r))
+  pub world : ran.world ≡ (end_of r).world
 
 -- 5.1.2.2.3p1: the same, by the moment at which the run is over
 pub record RanAt (o : Outcome) (m : Moment) (ran : Ran) : Type 0 where
   pub outcome : ran.outcome ≡ o
   pub turns : ran.turns ≡ m.taken
   pub sides : ran.sides ≡ map side_of (map is_high_pair m.world.memory.table.pairs)
+  pub world : ran.world ≡ m.world
 
 -- what the outside has (5.1.2.3p6), by what the sink tells and by its hall
 abbrev pub outlet : {X : Type 0} {P : X → Type 0} → Option (List ℕ) → Hall X P → ((x : X) × P x → Kind) → ((x : X) × P x → ℕ) → ((x : X) × P x → List Event) → Outlet

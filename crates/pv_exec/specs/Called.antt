@@ -15,7 +15,7 @@ use Rattle.pv_exec.specs.declared.task.Doing.{Doing}
 use Rattle.pv_exec.specs.declared.task.Doing.TheVariants as doing
 use Rattle.pv_exec.specs.declared.task.Way.{Way}
 use Rattle.pv_exec.specs.declared.task.Way.TheVariants as way
-use Rattle.pv_exec.specs.Calls.{below, take_params, runs_body}
+use Rattle.pv_exec.specs.OfRuns.{below, take_params, runs_body}
 use Rattle.pv_exec.specs.Tasks.{Reached, Valued, left_flow, after_flow}
 use Rattle.pv_exec.specs.Works.{flow_of, does, others, due}
 use Rattle.pv_exec.specs.Leading.{Leads, LeadsOr}
@@ -27,7 +27,7 @@ takes_one b line o v s = then_do (act b line (Makes o) s) (λ x s. act b line (P
 
 -- 6.9.1p10: what comes before the body of a function that is called
 abbrev pub body_beginning : Setting → (line : ℕ) → TypedFunction → List Worth → State → Res Worth
-body_beginning b line f vs s = then_do (act b line BeginsBody s) (λ x s. take_params b line f.params vs s)
+body_beginning b line f vs s = then_do (act b line (BeginsBody f.name line) s) (λ x s. take_params b line f.params vs s)
 
 -- 6.9.1p11: the body of a function is entered
 pub record BodyIs (u : Stored) (f : ℕ) (d : Doing) : Type 0 where

@@ -2,9 +2,8 @@
 use Rattle.std.specs.Prelude.{Bool, true, false, Some, if◌then◌else◌}
 use Rattle.pv_typed.specs.TypedStatement.{TypedStatement, Block, Expression, If, IfElse, Switch, Case, Default, While, DoWhile, For, ForDeclaration, Continue, Break, Return}
 use Rattle.pv_eval.specs.States.{Setting, State, Res, Gives, then_do}
-use Rattle.pv_exec.specs.Execution.{ex, exs}
-use Rattle.pv_exec.specs.Flows.{Flow, Falls, Breaks, Continues, Below, full_expression, nothing_done, testing, then_step, round_do, returns_value}
-use Rattle.pv_exec.specs.Blocks.{in_block}
+use Rattle.pv_exec.specs.OfRuns.{ex, exs, full_expression, testing, then_step, round_do, returns_value, in_block}
+use Rattle.pv_exec.specs.Flows.{Flow, Falls, Breaks, Continues, Below, nothing_done}
 use Rattle.pv_world.specs.Worths.{is_true}
 use Rattle.pv_exec.specs.Parts.{loop_of, rounds, selection_jump, selection_of}
 use Rattle.pv_exec.specs.Tasks.{within}

@@ -12,7 +12,7 @@ use Rattle.pv_exec.specs.declared.lists.Item.{Item}
 use Rattle.pv_exec.specs.declared.lists.Item.TheVariants as item
 use Rattle.pv_exec.specs.Flows.{Flow, Falls, Below, falls, nothing_done}
 use Rattle.pv_exec.specs.Lists.{store_all}
-use Rattle.pv_exec.specs.Execution.{ex, exs}
+use Rattle.pv_exec.specs.OfRuns.{ex, exs}
 use Rattle.pv_exec.specs.Tasks.{statements_from}
 use Rattle.pv_exec.specs.Fits.{HasStore}
 

@@ -22,9 +22,7 @@ use Rattle.pv_exec.specs.declared.task.Doing.{Doing}
 use Rattle.pv_exec.specs.declared.task.Way.{Way}
 use Rattle.pv_exec.specs.declared.task.Way.TheVariants as way
 use Rattle.pv_exec.specs.Flows as execution
-use Rattle.pv_exec.specs.Blocks.{end_all}
-use Rattle.pv_exec.specs.Execution.{ex}
-use Rattle.pv_exec.specs.Calls.{below}
+use Rattle.pv_exec.specs.OfRuns.{end_all, ex, below}
 use Rattle.pv_exec.specs.Parts.{loop_of, loop_from_test}
 use Rattle.pv_exec.specs.Entering.{behind_turn}
 use Rattle.pv_exec.specs.Tasks.{Reached, Left, Valued, left_flow, after_task, after_flow, after_value}

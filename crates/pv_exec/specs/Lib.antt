@@ -15,6 +15,7 @@ pub mod Leading
 pub mod Entering
 pub mod Fits
 pub mod Read
+pub mod Rules
 pub mod Items
 pub mod Switches
 pub mod Called
@@ -37,3 +38,4 @@ pub mod Sided
 pub mod Ending
 pub mod Answering
 pub mod Settling
+pub mod OfRuns

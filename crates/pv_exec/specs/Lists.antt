@@ -3,10 +3,10 @@ use Rattle.std.specs.Prelude.{List, ℕ}
 use Rattle.pv_eval.specs.Operations.{Makes, act, MakesLiteral, MakesFunction}
 use Rattle.pv_eval.specs.States.{Res, Setting, State}
 use Rattle.pv_world.specs.Worlds.{Worth}
-use Rattle.pv_exec.specs.Flows.{each, stores_value}
+use Rattle.pv_exec.specs.Flows.{each}
+use Rattle.pv_exec.specs.OfRuns.{stores_value, make_static, store_static}
 use Rattle.pv_typed.specs.TypedUnits.{object_at, Store, literal_at, function_at}
 use Rattle.pv_eval.specs.Steps.{Calling}
-use Rattle.pv_exec.specs.Preparing.{make_static, store_static}
 
 -- the objects of a block are made when it is entered, in the order of their declarations (which is our choice)
 abbrev pub make_all : Setting → List ℕ → State → Res Worth

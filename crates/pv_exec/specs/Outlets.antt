@@ -4,17 +4,10 @@ use Rattle.std.specs.declared.option.Option.{Option}
 use Rattle.pv_script.specs.Outside.{Gains}
 use Rattle.pv_typed.specs.Known.{Each}
 use Rattle.pv_watch.specs.declared.event.Event.{Event}
-use Rattle.pv_watch.specs.declared.hall.Hall.{Hall}
-use Rattle.pv_watch.specs.Halls.{slots_in}
-use Rattle.pv_watch.specs.Seen.{Kind}
-use Rattle.pv_watch.specs.Slots.{Slot, watcher, Told}
+use Rattle.pv_watch.specs.Slots.{Slot, Told}
 use Rattle.pv_eval.specs.declared.marked.Marked.{Marked}
 use Rattle.pv_eval.specs.States.{State}
 use Rattle.pv_exec.specs.Words.{FitsWords}
-
--- what the outside has (5.1.2.3p6): a hall as a list of slots, by what the trait of its watchers says
-abbrev pub hall_slots : {X : Type 0} {P : X → Type 0} → Hall X P → ((x : X) × P x → Kind) → ((x : X) × P x → ℕ) → ((x : X) × P x → List Event) → List Slot
-hall_slots h kind wants seen = slots_in (watcher (λ b. kind (b.vtable, b.value)) (λ b. wants (b.vtable, b.value)) (λ b. seen (b.vtable, b.value))) h
 
 -- an event without its mark, which says how much was printed (7.21.6.3) when it came
 abbrev pub event_of : Marked → Event

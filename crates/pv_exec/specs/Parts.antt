@@ -8,11 +8,10 @@ use Rattle.pv_world.specs.Worlds.{Worth}
 use Rattle.pv_world.specs.Worths.{is_true, int_of}
 use Rattle.pv_eval.specs.States.{Setting, State, Res, Gives, then_do, tick}
 use Rattle.pv_eval.specs.Operations.{Tests, Needs, act}
-use Rattle.pv_eval.specs.Steps.{with_conversion}
-use Rattle.pv_exec.specs.Flows.{Flow, Falls, Below, goes_on, behind_switch, then_step, round, if_tested}
-use Rattle.pv_exec.specs.Blocks.{in_block}
+use Rattle.pv_eval.specs.OfRuns.{with_conversion}
+use Rattle.pv_exec.specs.Flows.{Flow, Falls, Below, goes_on, behind_switch}
+use Rattle.pv_exec.specs.OfRuns.{then_step, round, if_tested, in_block, ex, exs_at}
 use Rattle.pv_exec.specs.Labels.{target_of, unless_none}
-use Rattle.pv_exec.specs.Execution.{ex, exs_at}
 
 -- 6.8.5.1, 6.8.5.3: a loop whose condition comes first
 pub record Loop : Type 0 where

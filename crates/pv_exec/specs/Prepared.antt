@@ -6,7 +6,7 @@ use Rattle.pv_eval.specs.declared.failure.Failure.{Failure}
 use Rattle.pv_eval.specs.Moments.{Always, state_of}
 use Rattle.pv_eval.specs.Machines.{Machine}
 use Rattle.pv_eval.specs.Moments.{Made}
-use Rattle.pv_exec.specs.Preparing.{store_static}
+use Rattle.pv_exec.specs.OfRuns.{store_static}
 
 -- 5.1.2p1, 6.7.9p11: the store with this place in the initializer was made
 abbrev pub StoresOne : Stored → (object i : ℕ) → Result (Unit {0}) Failure → Machine → Machine → Type 0

@@ -12,7 +12,7 @@ use Rattle.pv_eval.specs.Machines.{Machine}
 use Rattle.pv_exec.specs.declared.task.Way.{Way}
 use Rattle.pv_exec.specs.Flows.{Falls}
 use Rattle.pv_exec.specs.Lists.{store_all}
-use Rattle.pv_exec.specs.Calls.{below}
+use Rattle.pv_exec.specs.OfRuns.{below}
 use Rattle.pv_exec.specs.Tasks.{Reached, Left, left_flow}
 use Rattle.pv_exec.specs.Leading.{LeadsOr}
 

@@ -14,10 +14,11 @@ use Rattle.pv_world.specs.Worlds.{Worth, Nothing, Wrong, ByVerdict, Halts, Halt,
 use Rattle.pv_world.specs.Worths.{int_of}
 use Rattle.pv_eval.specs.States.{Setting, State, Turns, Unreached, Stopped, Res, Gives, Stops, then_do, first_world}
 use Rattle.pv_eval.specs.Constants.{is_high_pair}
+use Rattle.pv_exec.specs.Rules.{Rules, of_runs}
 use Rattle.pv_exec.specs.declared.outcome.Outcome.{Outcome}
 use Rattle.pv_exec.specs.declared.outcome.Outcome.TheVariants as outcome
-use Rattle.pv_exec.specs.Calls.{below, call_body}
-use Rattle.pv_exec.specs.Preparing.{prepare}
+use Rattle.pv_exec.specs.Calls.{below_by, call_body_by}
+use Rattle.pv_exec.specs.Preparing.{prepare_by}
 
 -- what a run is given: the unit (5.1.1.1), its bound, and in a settled run the sides of its pairs
 abbrev pub setting_of : Stored → (bound : ℕ) → Option (List Bool) → (zap : Bool) → Setting
@@ -28,13 +29,13 @@ abbrev pub initial_state : List ScriptLine → (zap : Bool) → State
 initial_state script zap = record { world = first_world script zap; output = []; events = []; taken = 0 }
 
 -- 5.1.2.2.1p1: `main` is called, without arguments, in the line of its name
-abbrev pub call_main : Setting → Option ℕ → State → Res Worth
-call_main b None s = Gives Nothing s
-call_main b (Some f) s = call_body b (below b b.bound) (function_at b.unit f) [] (function_at b.unit f).line s
+abbrev pub call_main_by : Rules → Setting → Option ℕ → State → Res Worth
+call_main_by R b None s = Gives Nothing s
+call_main_by R b (Some f) s = call_body_by R b (below_by R b b.bound) (function_at b.unit f) [] (function_at b.unit f).line s
 
 -- 5.1.2p1: the run: what comes before the first turn, and the call of `main`
-unfoldable pub run_of : Setting → List ScriptLine → Res Worth
-run_of b script = then_do (prepare b (initial_state script b.zap)) (λ v s. call_main b (main_of b.unit) s)
+unfoldable pub run_of_by : Rules → Setting → List ScriptLine → Res Worth
+run_of_by R b script = then_do (prepare_by R b (initial_state script b.zap)) (λ v s. call_main_by R b (main_of b.unit) s)
 
 -- 5.1.2.2.3p1: the status, by the value that `main` gives: an `int`; typing makes sure of it
 abbrev pub status_of : Worth → ℤ
@@ -72,3 +73,7 @@ outcome_of (Stops (Stopped y line) s) = outcome_of_stop y line
 -- the memory model: of each pair of candidates whether it was settled to its high one
 abbrev pub sides_at : State → List Bool
 sides_at s = map is_high_pair s.world.memory.table.pairs
+
+-- 5.1.2p1: as runs have it
+abbrev pub run_of : Setting → List ScriptLine → Res Worth
+run_of = run_of_by of_runs

@@ -21,10 +21,8 @@ use Rattle.pv_exec.specs.declared.running.Broken.TheVariants as broken
 use Rattle.pv_exec.specs.declared.once.Last.{Last}
 use Rattle.pv_exec.specs.declared.task.Doing.{Doing}
 use Rattle.pv_exec.specs.declared.task.Flow.{Flow}
-use Rattle.pv_exec.specs.Blocks.{end_all}
-use Rattle.pv_exec.specs.Calls.{below, call_body, value_by}
-use Rattle.pv_exec.specs.Preparing.{prepare}
-use Rattle.pv_exec.specs.Run.{call_main}
+use Rattle.pv_exec.specs.OfRuns.{end_all, below, call_body, prepare, call_main}
+use Rattle.pv_exec.specs.Calls.{value_by}
 use Rattle.pv_exec.specs.Tasks.{Reached}
 use Rattle.pv_exec.specs.Works.{flow_of, Holds}
 use Rattle.pv_exec.specs.Leading.{LastIs}

@@ -17,7 +17,7 @@ use Rattle.pv_exec.specs.declared.switches.SwitchParts.{SwitchParts}
 use Rattle.pv_exec.specs.Flows.{Below}
 use Rattle.pv_exec.specs.Labels.{Target, ToCase, ToDefault, ToNone, is_target, target_of}
 use Rattle.pv_exec.specs.LabelParts.{some_case, some_default}
-use Rattle.pv_exec.specs.Execution.{exs, exs_at}
+use Rattle.pv_exec.specs.OfRuns.{exs, exs_at}
 use Rattle.pv_exec.specs.Parts.{Selection}
 use Rattle.pv_exec.specs.Tasks.{statements_from}
 use Rattle.pv_exec.specs.Fits.{HasList, IsScope}

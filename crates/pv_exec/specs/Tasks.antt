@@ -13,15 +13,15 @@ use Rattle.pv_world.specs.Worlds.{Worth, Nothing}
 use Rattle.pv_eval.specs.States.{Setting, State, Res, Gives, then_do}
 use Rattle.pv_eval.specs.TypeForms.{lvalue}
 use Rattle.pv_eval.specs.Operations.{Accepts, EndsBody, Puts, act}
-use Rattle.pv_eval.specs.Steps.{Calling, with_conversion, accepted_value}
+use Rattle.pv_eval.specs.Steps.{Calling}
+use Rattle.pv_eval.specs.OfRuns.{with_conversion, accepted_value}
 use Rattle.pv_eval.specs.Machines.{Started, answered_of}
 use Rattle.pv_exec.specs.declared.task.Task.{Task}
 use Rattle.pv_exec.specs.declared.task.Task.TheVariants as task
 use Rattle.pv_exec.specs.Flows.{Flow, Falls, Returns, Below, falls, behind_switch}
 use Rattle.pv_exec.specs.Lists.{store_all}
-use Rattle.pv_exec.specs.Blocks.{end_all}
-use Rattle.pv_exec.specs.Execution.{exs}
-use Rattle.pv_exec.specs.Calls.{below, value_by}
+use Rattle.pv_exec.specs.OfRuns.{end_all, exs, below}
+use Rattle.pv_exec.specs.Calls.{value_by}
 use Rattle.pv_exec.specs.Parts.{Loop, loop_of, rounds, rest_of_loop, loop_from_test, do_of, rounded_do, tested_do, choice_of, branch_of, selection_of, selection_jump}
 
 -- what is handed to a task: how a statement was left (6.8.6p2), or the value of an expression (6.8p4)

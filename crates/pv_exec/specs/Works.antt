@@ -6,10 +6,8 @@ use Rattle.pv_typed.specs.Tables.{Stored}
 use Rattle.pv_typed.specs.NodeTrees.{statement_at}
 use Rattle.pv_eval.specs.Machines.{left_of, ended_value, due_turns, after_first, Started}
 use Rattle.pv_eval.specs.States.{Setting, State, Res, Gives, then_do, tick}
-use Rattle.pv_exec.specs.Execution.{ex, exs}
-use Rattle.pv_exec.specs.Calls.{below}
+use Rattle.pv_exec.specs.OfRuns.{ex, exs, below, in_block}
 use Rattle.pv_exec.specs.Lists.{store_all}
-use Rattle.pv_exec.specs.Blocks.{in_block}
 use Rattle.pv_world.specs.Coming.{worth_of}
 use Rattle.pv_eval.specs.Stack.{rest}
 use Rattle.pv_exec.specs.Flows as execution

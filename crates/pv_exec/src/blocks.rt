@@ -5,7 +5,7 @@ ghost use Rattle.pv_typed.specs.NodeTrees.{statement_at};
 ghost use Rattle.pv_typed.specs.Formed.{AreObjects};
 ghost use Rattle.pv_eval.specs.Moments.{Made, IsMemory, Always, state_of, Stays};
 ghost use Rattle.pv_eval.specs.Runnable.{IsRunnable};
-ghost use Rattle.pv_exec.specs.Blocks.{end_all};
+ghost use Rattle.pv_exec.specs.OfRuns.{end_all};
 ghost use Rattle.pv_exec.specs.Lists.{make_all};
 ghost use Rattle.pv_exec.specs.Fits.{IsScope};
 

@@ -8,7 +8,7 @@ ghost use Rattle.pv_eval.specs.MachineSteps.{Fit};
 ghost use Rattle.pv_eval.specs.Moments.{Made};
 ghost use Rattle.pv_eval.specs.Machines.{is_asked, is_ended, after_first};
 ghost use Rattle.pv_eval.specs.Runnable.{IsRunnable};
-ghost use Rattle.pv_exec.specs.Calls.{take_params};
+ghost use Rattle.pv_exec.specs.OfRuns.{take_params};
 ghost use Rattle.pv_exec.specs.Leading.{FlowLed};
 ghost use Rattle.pv_exec.specs.Fits.{WayFitsOr};
 ghost use Rattle.pv_exec.specs.Quickness.{QuickOr, EndsOr};
@@ -87,7 +87,7 @@ pub fn begin_function(
     ensures started { machine.new.started ≡ machine.old.started }
     ensures stays { Stays machine.old.moment machine.new.moment }
 {
-    let begun = machine.begin_body();
+    let begun = machine.begin_body(unit.function(f).name, line);
     if begun.is_err() {
         return Err(Failure::NoMemory);
     }

@@ -7,7 +7,8 @@ ghost use Rattle.pv_typed.specs.Known.{Each};
 ghost use Rattle.pv_watch.specs.Slots.{Told};
 ghost use Rattle.pv_eval.specs.Runnable.{IsRunnable};
 ghost use Rattle.pv_exec.specs.Answering.{outlet};
-ghost use Rattle.pv_exec.specs.Outlets.{hall_slots, event_of};
+ghost use Rattle.pv_watch.specs.Halls.{hall_slots};
+ghost use Rattle.pv_exec.specs.Outlets.{event_of};
 ghost use Rattle.pv_exec.specs.Streaming.{FirstWritten, BlockPart, HasWritten, FirstTold, IsFar, HasTold, DeliveredOr, DeliveryCause, failing, Finished, FinishedTold};
 ghost use Rattle.pv_exec.specs.Words.{FitsWords};
 
@@ -156,6 +157,7 @@ fn write_rest<O: Sink>(machine: &mut Machine, out: &mut O) -> Result<(), Failed>
     ensures err { OnErr result (GainsPrefix (O.written out.old) (O.written out.new) machine.old.moment.printed) }
     ensures cause { HasCause (O.faults out.old) (O.faults out.new) result }
     ensures waiting { OnOk result (machine.new.moment.waiting ≡ machine.old.moment.waiting) }
+    ensures world { OnOk result (machine.new.moment.world ≡ machine.old.moment.world) }
 {
     write_kept(machine, out)?;
     write_all(out, machine.printed().as_slice())
@@ -173,6 +175,7 @@ pub fn finish<O: Sink>(
     ensures words { OnOk result (Each FitsWords machine.old.moment.waiting) }
     ensures told { FinishedTold (failing result) (hall_slots hall.old its_kind its_wants seen) (hall_slots hall.new its_kind its_wants seen) (map event_of machine.old.moment.waiting) unit.now.names }
     ensures cause { DeliveryCause (failing result) (O.faults out.old) (O.faults out.new) }
+    ensures world { OnOk result (machine.new.moment.world ≡ machine.old.moment.world) }
 {
     match write_rest(machine, out) {
         Ok(()) => {}

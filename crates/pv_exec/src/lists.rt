@@ -8,7 +8,7 @@ ghost use Rattle.pv_eval.specs.Runnable.{IsRunnable};
 ghost use Rattle.pv_exec.specs.Leading.{FlowLed, DoingLed};
 ghost use Rattle.pv_exec.specs.Fits.{WayFitsOr, HasList};
 ghost use Rattle.pv_exec.specs.Quickness.{QuickOr, EndsOr, WithinOr};
-ghost use Rattle.pv_exec.specs.Flows.{begin_fill};
+ghost use Rattle.pv_exec.specs.OfRuns.{begin_fill};
 ghost use Rattle.pv_exec.specs.Items.{declared_in, ItemOr, ItemFits};
 
 use crate::parts::declarations;

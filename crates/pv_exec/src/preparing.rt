@@ -6,7 +6,7 @@ ghost use Rattle.pv_eval.specs.Moments.{Made};
 ghost use Rattle.pv_eval.specs.Runnable.{IsRunnable};
 ghost use Rattle.pv_exec.specs.Fits.{HasStore};
 ghost use Rattle.pv_exec.specs.Prepared.{StoresOne};
-ghost use Rattle.pv_exec.specs.Preparing.{make_static, store_static, prepare};
+ghost use Rattle.pv_exec.specs.OfRuns.{make_static, store_static, prepare};
 ghost use Rattle.pv_exec.specs.Lists.{make_statics, make_literals, make_functions, store_statics, initialize_statics};
 
 use crate::stores::init_at;

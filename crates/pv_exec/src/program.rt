@@ -7,7 +7,8 @@ ghost use Rattle.pv_typed.specs.Tables.{whole_unit};
 ghost use Rattle.pv_eval.specs.Runnable.{IsRunnable};
 ghost use Rattle.pv_exec.specs.Run.{setting_of, run_of};
 ghost use Rattle.pv_exec.specs.Stages.{stage_of};
-ghost use Rattle.pv_exec.specs.Outlets.{event_of, hall_slots};
+ghost use Rattle.pv_watch.specs.Halls.{hall_slots};
+ghost use Rattle.pv_exec.specs.Outlets.{event_of};
 ghost use Rattle.pv_exec.specs.Words.{FitsWords};
 ghost use Rattle.pv_exec.specs.Answering.{RanAs, RanAt, ToldOr, StreamedOr, RestTold, FaultCause, error_of, error_by, end_at, highs, outlet};
 ghost use Rattle.pv_exec.specs.SettledRuns.{SettlesAlike, IsUndefinedByAll};
@@ -23,6 +24,7 @@ use pv_eval::{Machine, Plan};
 use pv_script::{Script, Sink};
 use pv_typed::TypedUnit;
 use pv_watch::{Hall, Watch};
+use pv_world::World;
 use std::alloc::Global;
 use thiserror::Error;
 
@@ -34,6 +36,8 @@ pub struct Ran {
     pub turns: u64,
     /// One for each pair that was made.
     pub sides: Sides,
+    /// The world in which it ended: its memory, the bodies that had not ended, and which instance each object has.
+    pub world: World,
 }
 
 /// Why there is no outcome.
@@ -68,33 +72,35 @@ fn error_by(ended: &Result<Ended, Broken>) -> RunError
     }
 }
 
-// The run is over: what is left of its output is written, and of its events told.
+// The run is over: what is left of its output is written, and of its events told. Its world is handed out.
 fn answer<O: Sink>(
     alloc: Global,
     unit: &TypedUnit,
     outcome: Outcome,
-    machine: &mut Machine,
+    machine: Machine,
     out: &mut O,
     hall: &mut Hall,
 ) -> Result<Ran, RunError>
     requires runnable { IsRunnable unit.now }
-    ensures ran { IfOk result (RanAt outcome machine.old.moment) }
-    ensures gains { OnOk result (Gains (O.written out.old) (O.written out.new) machine.old.moment.printed) }
-    ensures part { OnErr result (GainsPrefix (O.written out.old) (O.written out.new) machine.old.moment.printed) }
+    ensures ran { IfOk result (RanAt outcome machine.moment) }
+    ensures gains { OnOk result (Gains (O.written out.old) (O.written out.new) machine.moment.printed) }
+    ensures part { OnErr result (GainsPrefix (O.written out.old) (O.written out.new) machine.moment.printed) }
     ensures cause { FaultCause result (O.faults out.old) (O.faults out.new) }
-    ensures told { RestTold result (hall_slots hall.old its_kind its_wants seen) (hall_slots hall.new its_kind its_wants seen) (map event_of machine.old.moment.waiting) unit.now.names }
-    ensures words { OnOk result (Each FitsWords machine.old.moment.waiting) }
+    ensures told { RestTold result (hall_slots hall.old its_kind its_wants seen) (hall_slots hall.new its_kind its_wants seen) (map event_of machine.moment.waiting) unit.now.names }
+    ensures words { OnOk result (Each FitsWords machine.moment.waiting) }
 {
+    let mut machine = machine;
     let turns = machine.turns();
-    let sides = match sides_of(alloc, machine) {
+    let sides = match sides_of(alloc, &machine) {
         Some(sides) => sides,
         None => return Err(RunError::NoMemory),
     };
-    match finish(unit, machine, out, hall) {
+    match finish(unit, &mut machine, out, hall) {
         Ok(()) => Ok(Ran {
             outcome,
             turns,
             sides,
+            world: machine.into_world(),
         }),
         Err(e) => Err(error_of(e)),
     }
@@ -144,7 +150,7 @@ pub fn run<O: Sink>(
     let plan = Plan::new(alloc, u);
     let ended = run_unit(alloc, u, &plan, bound, &mut machine, out, hall);
     match outcome_by(&ended) {
-        Some(outcome) => answer(alloc, u, outcome, &mut machine, out, hall),
+        Some(outcome) => answer(alloc, u, outcome, machine, out, hall),
         None => Err(error_by(&ended)),
     }
 }

@@ -8,7 +8,7 @@ ghost use Rattle.pv_eval.specs.Machines.{ended_value, is_ended, after_first};
 ghost use Rattle.pv_eval.specs.Moments.{Stays};
 ghost use Rattle.pv_eval.specs.States.{Setting, State};
 ghost use Rattle.pv_eval.specs.Runnable.{IsRunnable};
-ghost use Rattle.pv_exec.specs.Calls.{below};
+ghost use Rattle.pv_exec.specs.OfRuns.{below};
 ghost use Rattle.pv_exec.specs.Tasks.{left_flow};
 ghost use Rattle.pv_exec.specs.Parts.{loop_of, rest_of_loop, stepped_on, line_of_condition};
 ghost use Rattle.pv_exec.specs.Works.{flow_of};

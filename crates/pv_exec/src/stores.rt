@@ -11,7 +11,7 @@ ghost use Rattle.pv_eval.specs.MachineSteps.{Fit, KeepsSetting};
 ghost use Rattle.pv_eval.specs.Runnable.{IsRunnable};
 ghost use Rattle.pv_exec.specs.Flows.{Falls};
 ghost use Rattle.pv_exec.specs.Lists.{store_all};
-ghost use Rattle.pv_exec.specs.Calls.{below};
+ghost use Rattle.pv_exec.specs.OfRuns.{below};
 ghost use Rattle.pv_exec.specs.Tasks.{left_flow};
 ghost use Rattle.pv_exec.specs.Works.{does, others};
 ghost use Rattle.pv_exec.specs.Leading.{ValueLed, DoingLed};

@@ -7,7 +7,7 @@ ghost use Rattle.pv_eval.specs.Machines.{Started, is_ended, after_first};
 ghost use Rattle.pv_eval.specs.MachineSteps.{Fit, KeepsSetting};
 ghost use Rattle.pv_eval.specs.Runnable.{IsRunnable};
 ghost use Rattle.pv_exec.specs.Labels.{is_target};
-ghost use Rattle.pv_exec.specs.Calls.{below};
+ghost use Rattle.pv_exec.specs.OfRuns.{below};
 ghost use Rattle.pv_exec.specs.Parts.{selection_of, selection_by, items_of, jumps};
 ghost use Rattle.pv_exec.specs.Tasks.{statements_from, left_flow};
 ghost use Rattle.pv_exec.specs.Leading.{Leads, ValueLed, DoingLed};

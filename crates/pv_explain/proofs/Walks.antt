@@ -9,7 +9,7 @@ use Rattle.pv_watch.specs.declared.event.What.{What}
 use Rattle.pv_watch.specs.declared.event.What.TheVariants.{Made, Ended, Exposed, Pair, Tried, Fault}
 use Rattle.pv_watch.specs.Lines.{first_told, event_lines}
 use Rattle.pv_watch.specs.LineParts.{event_line}
-use Rattle.pv_explain.specs.Texts.{Suspects, suspects_of, is_of_pair, is_fault, concerns, concerning}
+use Rattle.pv_watch.specs.Kinds.{Suspects, suspects_of, is_of_pair, is_fault, concerns, concerning}
 
 -- ---- the first of the events that tells something
 

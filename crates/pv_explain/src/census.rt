@@ -1,7 +1,7 @@
 //! How many events of each kind there were.
 ghost use Rattle.std.specs.Prelude.{◌≡◌, ◌<◌, ◌++◌, [], IfOk, OnOk};
 ghost use Rattle.pv_watch.specs.Slots.{watcher, Present};
-ghost use Rattle.pv_explain.specs.Texts.{place_of, events_of_kind, count_line, census_text, census_kind};
+ghost use Rattle.pv_watch.specs.Kinds.{place_of, events_of_kind, count_line, census_text, census_kind};
 
 use crate::log::Log;
 use pv_script::Names;

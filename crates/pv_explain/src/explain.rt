@@ -2,7 +2,7 @@
 ghost use Rattle.std.specs.Prelude.{◌≡◌, ◌<◌, [], not, if◌then◌else◌, IfOk, false};
 ghost use Rattle.pv_watch.specs.Lines.{first_told, event_lines};
 ghost use Rattle.pv_watch.specs.Slots.{watcher, Present};
-ghost use Rattle.pv_explain.specs.Texts.{is_that, is_suspect, suspects_of, concerns, is_fault, concerning, explain_text, story_kind};
+ghost use Rattle.pv_watch.specs.Kinds.{is_that, is_suspect, suspects_of, concerns, is_fault, concerning, explain_text, story_kind};
 
 use crate::known::Known;
 use crate::log::Log;
@@ -75,7 +75,7 @@ struct Suspects {
 }
 
 impl Model for Suspects {
-    ghost use Rattle.pv_explain.specs.Texts.{Suspects as Those};
+    ghost use Rattle.pv_watch.specs.Kinds.{Suspects as Those};
 
     ghost Value = { Those };
 

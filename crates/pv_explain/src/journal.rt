@@ -3,7 +3,7 @@ ghost use Rattle.std.specs.Prelude.{◌≡◌, ◌<◌, ◌++◌, [], IfOk, OnOk
 ghost use Rattle.pv_watch.specs.Slots.{watcher, Present};
 ghost use Rattle.pv_watch.specs.Lines.{event_lines};
 ghost use Rattle.pv_watch.specs.TextParts.{last_line};
-ghost use Rattle.pv_explain.specs.Texts.{journal_kind};
+ghost use Rattle.pv_watch.specs.Kinds.{journal_kind};
 
 use crate::known::Known;
 use crate::log::Log;

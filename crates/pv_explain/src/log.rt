@@ -14,7 +14,7 @@ pub(crate) struct Log {
 
 impl Log {
     ghost use Rattle.pv_watch.specs.Adding.{Sees};
-    ghost use Rattle.pv_explain.specs.Texts.{cut_line};
+    ghost use Rattle.pv_watch.specs.Kinds.{cut_line};
 
     /// Nothing is seen yet, which takes no memory.
     pub(crate) fn new(alloc: Global, wants: u64) -> Log

@@ -1,7 +1,7 @@
 //! The lives of ambiguous pointers.
 ghost use Rattle.std.specs.Prelude.{◌≡◌, ◌<◌, [], IfOk};
 ghost use Rattle.pv_watch.specs.Slots.{watcher, Present};
-ghost use Rattle.pv_explain.specs.Texts.{is_of_pair, pointers_text, pointers_kind};
+ghost use Rattle.pv_watch.specs.Kinds.{is_of_pair, pointers_text, pointers_kind};
 
 use crate::known::Known;
 use crate::log::Log;

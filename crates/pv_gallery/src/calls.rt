@@ -1,15 +1,10 @@
-//! What the rows need: the names of their files, and one call of `serve`.
+//! What the rows need: the names of their files, and sinks.
 
-use pv_explain::{Census, Explain, Pointers};
 use pv_script::MemSink;
-use pv_serve::{NoMemory, serve};
-use pv_watch::{Hall, Watch};
+use pv_serve::NoMemory;
 use std::alloc::Global;
 use std::rt::Files;
 use std::{fs, io};
-
-/// How many events a story and the life of pairs are told of, as in the program `pvrun`.
-const WANTS: u64 = 65_536;
 
 /// The names of the folder's files with an ending, without it, in order.
 pub(crate) fn names(
@@ -25,22 +20,6 @@ pub(crate) fn names(
     }
     names.sort()?;
     Ok(names)
-}
-
-/// Calls `serve` before the three watchers that the program `pvrun` has.
-pub(crate) fn serve_watched<F: pv_script::Files>(
-    alloc: Global,
-    words: &[String],
-    files: &mut F,
-    out: &mut MemSink,
-    report: &mut MemSink,
-) -> Result<u8, NoMemory> {
-    let mut watchers: Vec<Box<dyn Watch>> = Vec::new(alloc);
-    watchers.push(Box::new(alloc, Explain::new(alloc, WANTS))?)?;
-    watchers.push(Box::new(alloc, Census::new(alloc, u64::MAX))?)?;
-    watchers.push(Box::new(alloc, Pointers::new(alloc, WANTS))?)?;
-    let mut hall = Hall::new(alloc, watchers)?;
-    Ok(serve(alloc, words, files, out, report, &mut hall))
 }
 
 /// A sink that takes all that it is given.

@@ -1,9 +1,9 @@
 //! The rows of the files `*.rows`: words, a script, a source, and what is told of them. Their form is that of `data/README.md`.
 
-use crate::calls::{names, no_memory, serve_watched, sink};
+use crate::calls::{names, no_memory, sink};
 use crate::count::Count;
 use pv_script::MemFiles;
-use pv_serve::NoMemory;
+use pv_serve::{NoMemory, serve_shipped};
 use std::alloc::Global;
 use std::rt::Files;
 use std::{fs, io};
@@ -62,7 +62,7 @@ fn told(alloc: Global, asked: &str) -> Result<String, NoMemory> {
     let mut files = files_of(alloc, text.as_str())?;
     let mut out = sink(alloc)?;
     let mut report = sink(alloc)?;
-    let status = serve_watched(alloc, words.as_slice(), &mut files, &mut out, &mut report)?;
+    let status = serve_shipped(alloc, words.as_slice(), &mut files, &mut out, &mut report)?;
     let out = str::from_utf8(out.bytes()).unwrap_or("no text");
     let report = str::from_utf8(report.bytes()).unwrap_or("no text");
     Ok(format!(in alloc; "{status}\n{out}{report}")?)

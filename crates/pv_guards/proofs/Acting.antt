@@ -123,7 +123,7 @@ module _ (b : Setting) (os : List ℕ) where
   promised-keeps w z (MakesLiteral l) t g h = absurd h
   promised-keeps w z (MakesFunction f) t g h = absurd h
   promised-keeps w z (Ends o) t g h = absurd h
-  promised-keeps w z BeginsBody t g h = absurd h
+  promised-keeps w z (BeginsBody f n) t g h = absurd h
   promised-keeps w z EndsBody t g h = absurd h
   promised-keeps w z (Fills o v) t g h = absurd h
   promised-keeps w z (Puts o offset l v) t g h = absurd h

@@ -8,9 +8,9 @@ use Rattle.pv_types.specs.Ty.{Ty, Tys, NoTys, MoreTys, VoidTy, IntTy, PointerTo,
 use Rattle.pv_types.specs.Sorts.{bare_type}
 use Rattle.pv_typed.specs.TypedStatement.{TypedStatement}
 use Rattle.pv_typed.specs.TypedUnits.{TypedFunction, layouts, object_at, function_at}
-use Rattle.pv_world.specs.Worlds.{Worth, Nothing, Missing, World, Bindings}
+use Rattle.pv_world.specs.Worlds.{Worth, Nothing, Missing, World, Body}
 use Rattle.pv_world.specs.Worths.{int}
-use Rattle.pv_world.specs.Objects.{instance_of}
+use Rattle.pv_world.specs.Objects.{begun_body, instance_of}
 use Rattle.pv_world.specs.ObjectParts.{without_first}
 use Rattle.pv_eval.specs.States.{Setting, State, Res, Gives, Stops}
 use Rattle.pv_typed.specs.Known.{Each}
@@ -18,15 +18,14 @@ use Rattle.pv_eval.specs.TypeForms.{lvalue, size_of, gives_none}
 use Rattle.pv_eval.specs.Acting.{with_side}
 use Rattle.pv_eval.specs.Operations.{Makes, BeginsBody, EndsBody, Puts, works, act}
 use Rattle.pv_exec.specs.Flows.{Flow, Falls, Breaks, Continues, Returns, Below}
-use Rattle.pv_exec.specs.Blocks.{end_all}
-use Rattle.pv_exec.specs.Execution.{ex}
-use Rattle.pv_exec.specs.Calls.{take_params, value_at_end, value_by, runs_body, call_body, below}
+use Rattle.pv_exec.specs.OfRuns.{end_all, ex, take_params, runs_body, call_body, below}
+use Rattle.pv_exec.specs.Calls.{below_by, value_at_end, value_by}
 use Rattle.pv_exec.specs.CallParts.{is_main}
 use Rattle.pv_guards.specs.Worths.{IsOfType, IsThere}
 use Rattle.pv_guards.specs.Typed.{IsIn, AreLike, AreAllLike, IsSignature}
 use Rattle.pv_guards.specs.Soundness.{Value, AreValues, IsHome, IsSound, IsAfter}
 use Rattle.pv_guards.specs.Plain.{act_plainly}
-use Rattle.pv_guards.specs.PlainExecution as plain
+use Rattle.pv_guards.specs.PlainParts as parts
 use Rattle.pv_guards.specs.TypedStatements.{IsMakeable, IsParameter, AreParameters, IsResult, IsDefinition, IsTypedFunction, IsTypedUnit}
 use Rattle.pv_guards.specs.Laws.{GivesSound, CallsAgree}
 use Rattle.pv_guards.proofs.Numbers.{zero_fits}
@@ -59,7 +58,7 @@ values-like b w (MoreTys t ts) (MoreTys u us) (v ∷ vs) h g =
     ((to-bare (layouts b.unit) u v ((h.0 (layouts b.unit) v).0 (from-bare (layouts b.unit) t v g.0.0)), g.0.1), g.1, values-like b w ts us vs h.1 g.2)
 
 -- 6.9.1p10: the parameters of a call whose arguments had their values in an earlier world
-module _ (b : Setting) (rest : List Bindings) (w0 : World) where
+module _ (b : Setting) (rest : List Body) (w0 : World) where
   put-sure : (os : List ℕ) (line o : ℕ) (v : Worth) (t : Ty) (s : State) → IsIn o os → IsParameter b.unit o t → Value b w0 (bare_type t) v → IsThere v → Within b os rest w0 s.world
       → Sure (λ x z. Within b os rest w0 z) (act b line (Puts o 0 (lvalue b (object_at b.unit o).t) v) s) (act_plainly b line (Puts o 0 (lvalue b (object_at b.unit o).t) v) s)
   put-sure os line o v t s among m g there i =
@@ -72,7 +71,7 @@ module _ (b : Setting) (rest : List Bindings) (w0 : World) where
       (puts-holds b os line o s.world (in-scope b os o m.0.storage among) m.0.small 0 u v (omega arith) m.2 there (λ z a. (typed, value-later w0.memory.table z.memory.table (λ p h. a.made p (i.later.made p h)) v g.1))))
 
   params-sure : (line : ℕ) (os ps : List ℕ) (ts : Tys) (vs : List Worth) → AreParameters b.unit ps ts → AreValues b w0 ts vs → (s : State) → Within b os rest w0 s.world
-      → Sure (λ x z. Within b (ps ++ os) rest w0 z) (take_params b line ps vs s) (plain.take_params b line ps vs s)
+      → Sure (λ x z. Within b (ps ++ os) rest w0 z) (take_params b line ps vs s) (parts.take_params b line ps vs s)
   params-sure line os [] NoTys vs h g s i = (refl, i)
   params-sure line os [] (MoreTys t ts) vs h g s i = absurd h
   params-sure line os (o ∷ ps) NoTys vs h g s i = absurd h
@@ -80,7 +79,7 @@ module _ (b : Setting) (rest : List Bindings) (w0 : World) where
   params-sure line os (o ∷ ps) (MoreTys t ts) (v ∷ vs) h g s i =
       sure-seq (λ x z. Within b (o ∷ os) rest w0 z) (λ x z. Within b (o ∷ ps ++ os) rest w0 z) (act b line (Makes o) s) (act_plainly b line (Makes o) s) _ _ (makes-sure b os rest w0 line o s h.0.0 i) (λ x y k.
       sure-seq (λ x z. Within b (o ∷ os) rest w0 z) (λ x z. Within b (o ∷ ps ++ os) rest w0 z) (act b line (Puts o 0 (lvalue b (object_at b.unit o).t) v) y) (act_plainly b line (Puts o 0 (lvalue b (object_at b.unit o).t) v) y) _ _ (put-sure (o ∷ os) line o v t y (inl refl) h.0 g.0 g.1 k) (λ x z q.
-      sure-more (λ x z. Within b (ps ++ o ∷ os) rest w0 z) (λ x z. Within b (o ∷ ps ++ os) rest w0 z) (take_params b line ps vs z) (plain.take_params b line ps vs z)
+      sure-more (λ x z. Within b (ps ++ o ∷ os) rest w0 z) (λ x z. Within b (o ∷ ps ++ os) rest w0 z) (take_params b line ps vs z) (parts.take_params b line ps vs z)
       (λ x y n. inv-less b rest w0 (o ∷ ps ++ os) (ps ++ o ∷ os) y (moved-in o ps os) n) (params-sure line (o ∷ os) ps ts vs h.1 g.2 z q)))
 
 -- 6.9.1: a body begins and ends
@@ -90,15 +89,15 @@ module _ (b : Setting) (os : List ℕ) (w : World) (s : IsSound b os w) where
   static-scope o true h = h
   static-scope o false h = absurd h
 
-  abbrev inner : World
-  inner = record w { bodies = map.empty ∷ w.bodies }
+  abbrev inner : (f line : ℕ) → World
+  inner f line = begun_body w f line
 
-  inner-same : (o : ℕ) (c : Bool) → IsIn o (if c then b.unit.statics else []) → instance_of inner o c ≡ instance_of w o c
-  inner-same o true h = refl
-  inner-same o false h = absurd h
+  inner-same : (f line o : ℕ) (c : Bool) → IsIn o (if c then b.unit.statics else []) → instance_of (inner f line) o c ≡ instance_of w o c
+  inner-same f line o true h = refl
+  inner-same f line o false h = absurd h
 
-  body-begins : Within b [] w.bodies w inner
-  body-begins = record {
+  body-begins : (f line : ℕ) → Within b [] w.bodies w (inner f line)
+  body-begins f line = record {
     later = record { made = λ p h. h; lives = all-same w.memory.table; statics = refl; literals = refl; functions = refl };
     sound = record {
       laid = s.laid;
@@ -106,17 +105,17 @@ module _ (b : Setting) (os : List ℕ) (w : World) (s : IsSound b os w) where
       objects = λ o g.
           let c = (object_at b.unit o).lasting in
           let n = size_of b (object_at b.unit o).t in
-          subst (λ i. IsHome w.memory.table i n) (sym (inner-same o c g)) (s.objects o (static-scope o c g));
+          subst (λ i. IsHome w.memory.table i n) (sym (inner-same f line o c g)) (s.objects o (static-scope o c g));
       apart = λ o q g k e.
           let c = (object_at b.unit o).lasting in
           let d = (object_at b.unit q).lasting in
-          s.apart o q (static-scope o c g) (static-scope q d k) (sym (inner-same o c g) ∙ e ∙ inner-same q d k);
+          s.apart o q (static-scope o c g) (static-scope q d k) (sym (inner-same f line o c g) ∙ e ∙ inner-same f line q d k);
       literals = s.literals;
       functions = s.functions;
       code = s.code;
       owned = s.owned;
     };
-    body = (map.empty, refl);
+    body = (record { function = f; line = line; bindings = map.empty }, refl);
     own = λ o h e. absurd h;
   }
 
@@ -146,9 +145,9 @@ module _ (b : Setting) (os : List ℕ) (w : World) (s : IsSound b os w) where
   leaves-sure : (line : ℕ) (t : State) → Within b [] w.bodies w t.world → Sure (Back t.world) (act b line EndsBody t) (act_plainly b line EndsBody t)
   leaves-sure line t h = (refl, acted-lands b (Back t.world) (back-sided t.world) line (works b EndsBody t.world) t (body-ends t.world h))
 
-  begins-sure : (line : ℕ) (t : State) → t.world ≡ w → Sure (λ v z. Within b [] w.bodies w z) (act b line BeginsBody t) (act_plainly b line BeginsBody t)
-  begins-sure line t e =
-      (refl, acted-lands b (λ v z. Within b [] w.bodies w z) (within-sided b [] w.bodies w) line (works b BeginsBody t.world) t (subst (λ x. Answering (λ v z. Within b [] w.bodies w z) (works b BeginsBody x)) (sym e) body-begins))
+  begins-sure : (f line : ℕ) (t : State) → t.world ≡ w → Sure (λ v z. Within b [] w.bodies w z) (act b line (BeginsBody f line) t) (act_plainly b line (BeginsBody f line) t)
+  begins-sure f line t e =
+      (refl, acted-lands b (λ v z. Within b [] w.bodies w z) (within-sided b [] w.bodies w) line (works b (BeginsBody f line) t.world) t (subst (λ x. Answering (λ v z. Within b [] w.bodies w z) (works b (BeginsBody f line) x)) (sym e) (body-begins f line)))
 
 -- 6.9.1p10: the objects of parameters can be made
 makeable : (b : Setting) (ps : List ℕ) (ts : Tys) → AreParameters b.unit ps ts → Each (IsMakeable b.unit false) ps
@@ -183,39 +182,39 @@ module _ (b : Setting) (unit : IsTypedUnit b.unit) where
 
   module _ (u u' : Below) (level : Level b u u') where
     -- 6.9.1p10, p11: the parameters, and then the body
-    taken-sure : (rest : List Bindings) (w0 : World) (r : Ty) (us : Tys) (ps : List ℕ) (x : Option TypedStatement) → IsDefinition b.unit r us ps x → (line : ℕ) (vs : List Worth) → AreValues b w0 us vs → (s : State) → Within b [] rest w0 s.world
-        → Sure (λ v z. Within b ps rest w0 z) (take_params b line ps vs s) (plain.take_params b line ps vs s)
+    taken-sure : (rest : List Body) (w0 : World) (r : Ty) (us : Tys) (ps : List ℕ) (x : Option TypedStatement) → IsDefinition b.unit r us ps x → (line : ℕ) (vs : List Worth) → AreValues b w0 us vs → (s : State) → Within b [] rest w0 s.world
+        → Sure (λ v z. Within b ps rest w0 z) (take_params b line ps vs s) (parts.take_params b line ps vs s)
     taken-sure rest w0 r us ps (Some x) d line vs g s i =
-        sure-more (λ v z. Within b (ps ++ []) rest w0 z) (λ v z. Within b ps rest w0 z) (take_params b line ps vs s) (plain.take_params b line ps vs s)
+        sure-more (λ v z. Within b (ps ++ []) rest w0 z) (λ v z. Within b ps rest w0 z) (take_params b line ps vs s) (parts.take_params b line ps vs s)
         (λ v z q. inv-less b rest w0 ps (ps ++ []) z (before-in ps) q) (params-sure b rest w0 line [] ps us vs d.0 g s i)
     taken-sure rest w0 r us ps None d line vs g s i =
-        subst (λ os. Sure (λ v z. Within b os rest w0 z) (take_params b line os vs s) (plain.take_params b line os vs s)) (sym d) (refl, i)
+        subst (λ os. Sure (λ v z. Within b os rest w0 z) (take_params b line os vs s) (parts.take_params b line os vs s)) (sym d) (refl, i)
 
-    runs-sure : (rest : List Bindings) (w0 : World) (r : Ty) (us : Tys) (ps : List ℕ) (x : Option TypedStatement) → is_some x ≡ true → IsDefinition b.unit r us ps x → (s : State) → Within b ps rest w0 s.world → Sure (EndsIn b rest w0 r ps) (runs_body b u x s) (plain.runs_body b u' x s)
+    runs-sure : (rest : List Body) (w0 : World) (r : Ty) (us : Tys) (ps : List ℕ) (x : Option TypedStatement) → is_some x ≡ true → IsDefinition b.unit r us ps x → (s : State) → Within b ps rest w0 s.world → Sure (EndsIn b rest w0 r ps) (runs_body b u x s) (parts.runs_body b u' x s)
     runs-sure rest w0 r us ps None there h s i = absurd cc
     runs-sure rest w0 r us ps (Some x) there h s i = ex-sure b rest w0 unit.characters u u' level r ps x h.2 s i
 
     -- 6.2.4p6: the parameters end
-    ended-sure : (rest : List Bindings) (w0 : World) (r : Ty) (us : Tys) (ps : List ℕ) (x : Option TypedStatement) → IsDefinition b.unit r us ps x → (s : State) → Within b ps rest w0 s.world
-        → Sure (λ v z. Within b [] rest w0 z × Keeps s.world.memory.table z.memory.table) (end_all b ps s) (plain.end_all b ps s)
+    ended-sure : (rest : List Body) (w0 : World) (r : Ty) (us : Tys) (ps : List ℕ) (x : Option TypedStatement) → IsDefinition b.unit r us ps x → (s : State) → Within b ps rest w0 s.world
+        → Sure (λ v z. Within b [] rest w0 z × Keeps s.world.memory.table z.memory.table) (end_all b ps s) (parts.end_all b ps s)
     ended-sure rest w0 r us ps (Some x) d s i =
         end-sure b rest w0 [] ps (makeable b ps us d.0) d.1 s (inv-less b rest w0 (ps ++ []) ps s.world (λ n k. none-behind ps n k) i)
     ended-sure rest w0 r us ps None d s i =
-        subst (λ os. Within b os rest w0 s.world → Sure (λ v z. Within b [] rest w0 z × Keeps s.world.memory.table z.memory.table) (end_all b os s) (plain.end_all b os s)) (sym d) (λ k. (refl, (k, λ p g. g))) i
+        subst (λ os. Within b os rest w0 s.world → Sure (λ v z. Within b [] rest w0 z × Keeps s.world.memory.table z.memory.table) (end_all b os s) (parts.end_all b os s)) (sym d) (λ k. (refl, (k, λ p g. g))) i
 
     -- a call of a function with this result and these parameters
     abbrev Called : List ℕ → Ty → World → Worth → World → Type 0
     Called os t w v z = Value b z t v × IsSound b os z × IsAfter w z
 
-    pub call-sure : (os : List ℕ) (x : TypedFunction) (r : Ty) (us : Tys) → IsTypedFunction b.unit x r us → x.t ≡ FunctionTy r us false → is_some x.body ≡ true → (vs : List Worth) (line : ℕ) (s : State) → AreValues b s.world us vs → IsSound b os s.world → Sure (Called os r s.world) (call_body b u x vs line s) (plain.call_body b u' x vs line s)
+    pub call-sure : (os : List ℕ) (x : TypedFunction) (r : Ty) (us : Tys) → IsTypedFunction b.unit x r us → x.t ≡ FunctionTy r us false → is_some x.body ≡ true → (vs : List Worth) (line : ℕ) (s : State) → AreValues b s.world us vs → IsSound b os s.world → Sure (Called os r s.world) (call_body b u x vs line s) (parts.call_body b u' x vs line s)
     call-sure os x r us f e there vs line s g sound =
         let w = s.world in
         let rest = w.bodies in
         let ps = x.params in
-        sure-seq (λ v z. Within b [] rest w z) (Called os r w) (act b line BeginsBody s) (act_plainly b line BeginsBody s) _ _ (begins-sure b os w sound line s refl) (λ v t i.
-        sure-seq (λ v z. Within b ps rest w z) (Called os r w) (take_params b line ps vs t) (plain.take_params b line ps vs t) _ _ (taken-sure rest w r us ps x.body f.definition line vs g t i) (λ v t i.
-        sure-seq (EndsIn b rest w r ps) (Called os r w) (runs_body b u x.body t) (plain.runs_body b u' x.body t) _ _ (runs-sure rest w r us ps x.body there f.definition t i) (λ fl t i.
-        sure-seq (λ v z. Within b [] rest w z × Keeps t.world.memory.table z.memory.table) (Called os r w) (end_all b ps t) (plain.end_all b ps t) _ _ (ended-sure rest w r us ps x.body f.definition t i.0) (λ v y k.
+        sure-seq (λ v z. Within b [] rest w z) (Called os r w) (act b line (BeginsBody x.name line) s) (act_plainly b line (BeginsBody x.name line) s) _ _ (begins-sure b os w sound x.name line s refl) (λ v t i.
+        sure-seq (λ v z. Within b ps rest w z) (Called os r w) (take_params b line ps vs t) (parts.take_params b line ps vs t) _ _ (taken-sure rest w r us ps x.body f.definition line vs g t i) (λ v t i.
+        sure-seq (EndsIn b rest w r ps) (Called os r w) (runs_body b u x.body t) (parts.runs_body b u' x.body t) _ _ (runs-sure rest w r us ps x.body there f.definition t i) (λ fl t i.
+        sure-seq (λ v z. Within b [] rest w z × Keeps t.world.memory.table z.memory.table) (Called os r w) (end_all b ps t) (parts.end_all b ps t) _ _ (ended-sure rest w r us ps x.body f.definition t i.0) (λ v y k.
         sure-seq (Back b os w sound y.world) (Called os r w) (act b line EndsBody y) (act_plainly b line EndsBody y) _ _ (leaves-sure b os w sound line y k.0) (λ v q h.
         (refl, (flow-value x r us f e fl q.world (flow-later b r fl y.world q.world h.2 (flow-later b r fl t.world y.world k.1 i.1)), h.1, h.0)))))))
 
@@ -223,7 +222,7 @@ module _ (b : Setting) (unit : IsTypedUnit b.unit) where
     given-sound os r t w (Gives v s) l h = (((l (layouts b.unit) v).0 h.0.0, h.0.1), h.1, h.2)
     given-sound os r t w (Stops y s) l h = tt
 
-    calls-agree : (os : List ℕ) → CallsAgree b os (λ f vs line s. call_body b u (function_at b.unit f) vs line s) (λ f vs line s. plain.call_body b u' (function_at b.unit f) vs line s)
+    calls-agree : (os : List ℕ) → CallsAgree b os (λ f vs line s. call_body b u (function_at b.unit f) vs line s) (λ f vs line s. parts.call_body b u' (function_at b.unit f) vs line s)
     calls-agree os f line t ts vs s h g sound =
         let x = function_at b.unit f in
         let sg = signature-of x.t t ts h.2 in
@@ -231,15 +230,15 @@ module _ (b : Setting) (unit : IsTypedUnit b.unit) where
         (p.0, given-sound os sg.0 t s.world (call_body b u x vs line s) sg.3 p.1)
 
   -- every level
-  pub levels : (k : ℕ) → Level b (below b k) (plain.below b k)
-  unfolding below plain.below
+  pub levels : (k : ℕ) → Level b (below b k) (parts.below b k)
+  unfolding below_by
   levels zero = record { call = λ os f line t ts vs s h g sound. (refl, tt); again = λ rest w0 r os c step x hc hs hx s i. (refl, tt); again_do = λ rest w0 r os x c hx hc s i. (refl, tt) }
   levels (suc k) =
       let l = levels k in
       let u : Below = below b k in
-      let u' : Below = plain.below b k in
+      let u' : Below = parts.below b k in
       record {
         call = λ os. calls-agree u u' l os;
-        again = λ rest w0 r os c step x hc hs hx s i. round-sure b rest w0 unit.characters u u' l r os c step (ex b u x) (plain.ex b u' x) (u.again c step x) (u'.again c step x) hc hs (λ s i. ex-sure b rest w0 unit.characters u u' l r os x hx s i) (λ s i. l.again rest w0 r os c step x hc hs hx s i) s i;
-        again_do = λ rest w0 r os x c hx hc s i. round_do-sure b rest w0 unit.characters u u' l r os c (ex b u x) (plain.ex b u' x) (u.again_do x c) (u'.again_do x c) hc (λ s i. ex-sure b rest w0 unit.characters u u' l r os x hx s i) (λ s i. l.again_do rest w0 r os x c hx hc s i) s i;
+        again = λ rest w0 r os c step x hc hs hx s i. round-sure b rest w0 unit.characters u u' l r os c step (ex b u x) (parts.ex b u' x) (u.again c step x) (u'.again c step x) hc hs (λ s i. ex-sure b rest w0 unit.characters u u' l r os x hx s i) (λ s i. l.again rest w0 r os c step x hc hs hx s i) s i;
+        again_do = λ rest w0 r os x c hx hc s i. round_do-sure b rest w0 unit.characters u u' l r os c (ex b u x) (parts.ex b u' x) (u.again_do x c) (u'.again_do x c) hc (λ s i. ex-sure b rest w0 unit.characters u u' l r os x hx s i) (λ s i. l.again_do rest w0 r os x c hx hc s i) s i;
       }

@@ -16,7 +16,7 @@ use Rattle.pv_eval.specs.Library.{asks}
 use Rattle.pv_eval.specs.Operations.{Op, Asks, does}
 use Rattle.pv_guards.specs.Typed.{given_type, IsTyped, IsFunction}
 use Rattle.pv_guards.specs.Soundness.{Value, AreValues, IsSound, IsAfter}
-use Rattle.pv_guards.specs.PlainEvaluation as plain
+use Rattle.pv_guards.specs.PlainRun as plain
 use Rattle.pv_guards.specs.Promises.{Promised}
 use Rattle.pv_guards.specs.Laws.{GivesSound, AnswersSound, CallsAgree, MeetsNoGuard, GivesItsType, DoesItsRule}
 use Rattle.pv_guards.proofs.Results.{Answering}

@@ -21,9 +21,10 @@ use Rattle.pv_eval.specs.TypeForms.{Lvalue, lvalue, kind_of, element_size, point
 use Rattle.pv_num.specs.Kinds.{promotion_of}
 use Rattle.pv_eval.specs.Conversions.{how_to}
 use Rattle.pv_eval.specs.Accesses.{access_to}
-use Rattle.pv_eval.specs.Sequenced.{Given, with_given, node_value, operand, later_operand, doing, work}
-use Rattle.pv_eval.specs.Steps.{Calling, takes, with_conversion, reading, writing, source_of, is_unequal, is_minus, is_after, is_down, combining, stepping, accepted_value}
-use Rattle.pv_eval.specs.Evaluation.{ev, ev_form, ev_call, ev_through, ev_ask}
+use Rattle.pv_eval.specs.Sequenced.{Given, with_given, node_value, operand, later_operand}
+use Rattle.pv_eval.specs.OfRuns.{doing, work, with_conversion, reading, writing, combining, stepping, accepted_value, ev_form, ev_call, ev_through, ev_ask}
+use Rattle.pv_eval.specs.Steps.{Calling, takes, source_of, is_unequal, is_minus, is_after, is_down}
+use Rattle.pv_eval.specs.Evaluation.{ev_by, ev}
 use Rattle.pv_eval.specs.Arguments.{argument}
 use Rattle.pv_eval.specs.CalleeParts.{function_in}
 use Rattle.pv_eval.specs.Library.{asks}
@@ -32,8 +33,8 @@ use Rattle.pv_typed.specs.Known.{Each}
 use Rattle.pv_eval.specs.Operations as op
 use Rattle.pv_eval.specs.Operations.{Op, act}
 use Rattle.pv_guards.specs.Plain.{act_plainly}
-use Rattle.pv_guards.specs.PlainSteps as plain
-use Rattle.pv_guards.specs.PlainEvaluation as plainly
+use Rattle.pv_guards.specs.PlainRun as plain
+use Rattle.pv_guards.specs.PlainParts as parts
 use Rattle.pv_guards.specs.Typed.{IsTyped, IsTypedForm, IsPlace, HasType, HasValue, MayConvert, MayCast, given_type, given_by, pointee_type, IsValueType, IsIntegerType, IsSum, IsElementPointer, MayStep, MayBeRight, IsFunction, ArePassed, IsResultOf}
 use Rattle.pv_guards.specs.Fair.{IsArgument, HasAddress}
 use Rattle.pv_guards.specs.Soundness.{Value, AreValues, IsSound, IsAfter}
@@ -184,17 +185,17 @@ module _ (b : Setting) (os : List ℕ)
   later-way w u t j e e' go go' h g =
       seq order (Gave order u) (Gave order t) w (e j.foes) (e' j.foes) (λ x s. go (with_given j x) x.value s) (λ x s. go' (with_given j x) x.value s) (h j.foes) (λ x z f q. g (with_given j x) x.value z f q)
 
-  pub doing-way : (w : World) (line : ℕ) (o : Op) (u t : Ty) (go go' : Worth → State → Res Given) → Promised b os w o u → ((v : Worth) (z : World) → To w z → Value b z u v → Typed t z (go v) (go' v)) → Typed t w (λ s. doing b line o s go) (λ s. plain.doing b line o s go')
+  pub doing-way : (w : World) (line : ℕ) (o : Op) (u t : Ty) (go go' : Worth → State → Res Given) → Promised b os w o u → ((v : Worth) (z : World) → To w z → Value b z u v → Typed t z (go v) (go' v)) → Typed t w (λ s. doing b line o s go) (λ s. parts.doing b line o s go')
   doing-way w line o u t go go' p g = seq order (Is u) (Gave order t) w (act b line o) (act_plainly b line o) go go' (acts line o u w p) g
 
-  pub work-way : (w : World) (line : ℕ) (o : Op) (t : Ty) (j : Open) → Promised b os w o t → Typed t w (work b line o j) (plain.work b line o j)
+  pub work-way : (w : World) (line : ℕ) (o : Op) (t : Ty) (j : Open) → Promised b os w o t → Typed t w (work b line o j) (parts.work b line o j)
   work-way w line o t j p = doing-way w line o t t (node_value j) (node_value j) p (λ v z f q. done-holds order z t j v q)
 
-  pub reading-way : (w : World) (l : Lvalue) (line : ℕ) (p : Worth) (j : Open) (u t : Ty) (go go' : Open → Worth → State → Res Given) → Promised b os w (op.Reads l p (rivals j)) u → ((j : Open) (v : Worth) (z : World) → To w z → Value b z u v → Typed t z (go j v) (go' j v)) → Typed t w (λ s. reading b l line p j s go) (λ s. plain.reading b l line p j s go')
+  pub reading-way : (w : World) (l : Lvalue) (line : ℕ) (p : Worth) (j : Open) (u t : Ty) (go go' : Open → Worth → State → Res Given) → Promised b os w (op.Reads l p (rivals j)) u → ((j : Open) (v : Worth) (z : World) → To w z → Value b z u v → Typed t z (go j v) (go' j v)) → Typed t w (λ s. reading b l line p j s go) (λ s. parts.reading b l line p j s go')
   reading-way w l line p j u t go go' h g =
       doing-way w line (op.Reads l p (rivals j)) u t (λ v s. go (with_access (access_to l (pointer_of p) false) j) v s) (λ v s. go' (with_access (access_to l (pointer_of p) false) j) v s) h (λ v z f q. g (with_access (access_to l (pointer_of p) false) j) v z f q)
 
-  pub writing-way : (w : World) (l : Lvalue) (line : ℕ) (p x : Worth) (from : Option ℕ) (j : Open) (u t : Ty) (go go' : Open → Worth → State → Res Given) → Promised b os w (op.Writes l p x from (rivals j)) u → ((j : Open) (v : Worth) (z : World) → To w z → Value b z u v → Typed t z (go j v) (go' j v)) → Typed t w (λ s. writing b l line p x from j s go) (λ s. plain.writing b l line p x from j s go')
+  pub writing-way : (w : World) (l : Lvalue) (line : ℕ) (p x : Worth) (from : Option ℕ) (j : Open) (u t : Ty) (go go' : Open → Worth → State → Res Given) → Promised b os w (op.Writes l p x from (rivals j)) u → ((j : Open) (v : Worth) (z : World) → To w z → Value b z u v → Typed t z (go j v) (go' j v)) → Typed t w (λ s. writing b l line p x from j s go) (λ s. parts.writing b l line p x from j s go')
   writing-way w l line p x from j u t go go' h g =
       doing-way w line (op.Writes l p x from (rivals j)) u t (λ v s. go (with_access (access_to l (pointer_of p) true) j) v s) (λ v s. go' (with_access (access_to l (pointer_of p) true) j) v s) h (λ v z f q. g (with_access (access_to l (pointer_of p) true) j) v z f q)
 
@@ -205,9 +206,9 @@ module _ (b : Setting) (os : List ℕ)
   as_it_is : (t u : Ty) (w : World) (v : Worth) → t ≡ u → Value b w t v → Holds order (Is u) w (λ s. Gives v s) (λ s. Gives v s)
   as_it_is t u w v e h = gives order (Is u) w v (λ z f. order.keeps u v f (subst (λ t. Value b w t v) e h))
 
-  pub converted-way : (x : TypedTree) (u : Ty) (w : World) (v : Worth) → IsTyped b.unit os x → HasType x u → Value b w (given_type x) v → Holds order (Is u) w (with_conversion b x v) (plain.with_conversion b x v)
+  pub converted-way : (x : TypedTree) (u : Ty) (w : World) (v : Worth) → IsTyped b.unit os x → HasType x u → Value b w (given_type x) v → Holds order (Is u) w (with_conversion b x v) (parts.with_conversion b x v)
   converted-way (Node t line turn (Convert (Node r m k y))) u w v h e g =
-      subst (λ q. Holds order (Is q) w (with_conversion b (Node t line turn (Convert (Node r m k y))) v) (plain.with_conversion b (Node t line turn (Convert (Node r m k y))) v)) e.1 (acts line (op.Converts (how_to b true r t) v) t w (r, g, inl (true, refl, cast-of r t h.2)))
+      subst (λ q. Holds order (Is q) w (with_conversion b (Node t line turn (Convert (Node r m k y))) v) (parts.with_conversion b (Node t line turn (Convert (Node r m k y))) v)) e.1 (acts line (op.Converts (how_to b true r t) v) t w (r, g, inl (true, refl, cast-of r t h.2)))
   converted-way (Node t line turn (Constant n)) u w v2 h e g2 = as_it_is t u w v2 e.1 g2
   converted-way (Node t line turn (Object o)) u w v2 h e g2 = absurd (no e.0)
   converted-way (Node t line turn (Function f)) u w v2 h e g2 = absurd (no e.0)
@@ -257,7 +258,7 @@ module _ (b : Setting) (os : List ℕ)
   followed s t e = subst (λ t. FollowsTo (is_void t) (if not (is_void t) then PointerTo t else t)) (sym e) (followed-by (is_void s) s refl)
 
   -- 6.5.16.2p3, 6.5.2.4p2: the operator, and back to the kind of the lvalue
-  combining-way : (w : World) (line : ℕ) (o : BinOp) (k back : IntKind) (v x : Worth) → Promised b os w (op.Calculates o k v x) (IntTy (yielded_kind o k)) → Holds order (Is (IntTy back)) w (combining b line o k back v x) (plain.combining b line o k back v x)
+  combining-way : (w : World) (line : ℕ) (o : BinOp) (k back : IntKind) (v x : Worth) → Promised b os w (op.Calculates o k v x) (IntTy (yielded_kind o k)) → Holds order (Is (IntTy back)) w (combining b line o k back v x) (parts.combining b line o k back v x)
   combining-way w line o k back v x p =
       seq order (Is (IntTy (yielded_kind o k))) (Is (IntTy back)) w (act b line (op.Calculates o k v x)) (act_plainly b line (op.Calculates o k v x)) _ _ (acts line (op.Calculates o k v x) (IntTy (yielded_kind o k)) w p) (λ v z f q.
       acts line (op.Converts (Rounds back) v) (IntTy back) z (IntTy (yielded_kind o k), q, inr (back, refl, refl, tt)))
@@ -266,7 +267,7 @@ module _ (b : Setting) (os : List ℕ)
   step-right true k = refl
   step-right false k = refl
 
-  stepping-way : (w : World) (line : ℕ) (t : Ty) (o : IncrementOperator) (v : Worth) → MayStep (layouts b.unit) t → Value b w t v → Holds order (Is t) w (stepping b line t o v) (plain.stepping b line t o v)
+  stepping-way : (w : World) (line : ℕ) (t : Ty) (o : IncrementOperator) (v : Worth) → MayStep (layouts b.unit) t → Value b w t v → Holds order (Is t) w (stepping b line t o v) (parts.stepping b line t o v)
   stepping-way w line (IntTy k) o v m h =
       combining-way w line (if is_down o then bin.Sub else bin.Add) (promotion_of k) k v (int (pos 1))
       (k, promotion_of k, promoted_is k, promoted_widens k, step-right (is_down o) (promotion_of k), h, (one_fits k, tt), refl)
@@ -325,9 +326,9 @@ module _ (b : Setting) (os : List ℕ)
   module _ (call call' : Calling)
       (calls : (line f : ℕ) (t : Ty) (ts : Tys) (vs : List Worth) (w : World) → IsFunction b.unit f t ts → AreValues b w ts vs → Holds order (Is t) w (call f vs line) (call' f vs line)) where
     -- 6.5.2.2p7: an argument is converted, and there
-    handed-way : (x : TypedTree) (t : Ty) (w : World) (v : Worth) → IsTyped b.unit os x → HasType x t → Value b w (given_type x) v → Holds order (λ v w. Value b w t v × IsThere v) w (accepted_value b x v) (plain.accepted_value b x v)
+    handed-way : (x : TypedTree) (t : Ty) (w : World) (v : Worth) → IsTyped b.unit os x → HasType x t → Value b w (given_type x) v → Holds order (λ v w. Value b w t v × IsThere v) w (accepted_value b x v) (parts.accepted_value b x v)
     handed-way x t w v h e g =
-        seq order (Is t) (λ v w. Value b w t v × IsThere v) w (with_conversion b x v) (plain.with_conversion b x v) _ _ (converted-way x t w v h e g) (λ v z f q. acting.accepts-way b os (line_of x) t v z q)
+        seq order (Is t) (λ v w. Value b w t v × IsThere v) w (with_conversion b x v) (parts.with_conversion b x v) _ _ (converted-way x t w v h e g) (λ v z f q. acting.accepts-way b os (line_of x) t v z q)
 
     -- one argument more
     each-append : {A : Type 0} (P : A → Type 0) (xs : List A) (x : A) → Each P xs → P x → Each P (xs ++ x ∷ [])
@@ -377,93 +378,93 @@ module _ (b : Setting) (os : List ℕ)
         each-append (λ (a : Arg). IsArgument y.memory.table a.value) got (argument x v) (values-later w.memory.table y.memory.table (order.on g i).made got h) (value-fair y.memory.table v f.1, type-address t v f.0)
 
     mutual
-      unfolding ev
+      unfolding ev_by
 
-      pub ev-typed : (x : TypedTree) → IsTyped b.unit os x → (fs : List Access) (w : World) → Typed (given_type x) w (ev b call x fs) (plainly.ev b call' x fs)
+      pub ev-typed : (x : TypedTree) → IsTyped b.unit os x → (fs : List Access) (w : World) → Typed (given_type x) w (ev b call x fs) (plain.ev b call' x fs)
       ev-typed (Node t line turn x) h fs w =
-          ticks order (Gave order (given_by t x)) w (takes turn x) (ev_form b call t line x fs) (plainly.ev_form b call' t line x fs) (form-typed t line x h fs w)
+          ticks order (Gave order (given_by t x)) w (takes turn x) (ev_form b call t line x fs) (parts.ev_form b call' t line x fs) (form-typed t line x h fs w)
 
-      form-typed : (t : Ty) (line : ℕ) (x : Form) → IsTypedForm b.unit os t x → (fs : List Access) (w : World) → Typed (given_by t x) w (ev_form b call t line x fs) (plainly.ev_form b call' t line x fs)
+      form-typed : (t : Ty) (line : ℕ) (x : Form) → IsTypedForm b.unit os t x → (fs : List Access) (w : World) → Typed (given_by t x) w (ev_form b call t line x fs) (parts.ev_form b call' t line x fs)
       form-typed t line (Constant n) h fs w = done-holds order w t (open_against fs) (int n) (subst (λ t. Value b w t (int n)) (sym h.1) (h.2, tt))
       form-typed t line (Sizeof n) h fs w = done-holds order w t (open_against fs) (int (pos n)) (subst (λ t. Value b w t (int (pos n))) (sym h.1) (h.2, tt))
       form-typed t line (Object o) h fs w = work-way w line (op.NamesObject o) (PointerTo t) (open_against fs) (t, refl, h)
       form-typed t line (String l) h fs w = work-way w line (op.NamesLiteral l) (PointerTo t) (open_against fs) (t, refl, h)
       form-typed t line (Function f) h fs w = work-way w line (op.NamesFunction f) (PointerTo t) (open_against fs) (t, refl, h)
       form-typed t line (Read a) h fs w =
-          operand-way w (given_type a) t (open_against fs) (ev b call a) (plainly.ev b call' a) _ _ (λ fs. ev-typed a h.0 fs w) (λ j p z f q.
+          operand-way w (given_type a) t (open_against fs) (ev b call a) (plain.ev b call' a) _ _ (λ fs. ev-typed a h.0 fs w) (λ j p z f q.
           reading-way z (lvalue b (type_of a)) line p j t t node_value node_value (type_of a, refl, h.3, subst IsValueType h.2 h.4, h.2, place-value a h.1 z p q) (λ j v y g r. done-holds order y t j v r))
       form-typed t line (Address a) h fs w =
-          operand-way w (given_type a) t (open_against fs) (ev b call a) (plainly.ev b call' a) node_value node_value (λ fs. ev-typed a h.0 fs w) (λ j v z f q.
+          operand-way w (given_type a) t (open_against fs) (ev b call a) (plain.ev b call' a) node_value node_value (λ fs. ev-typed a h.0 fs w) (λ j v z f q.
           done-holds order z t j v (subst (λ u. Value b z u v) (sym h.2) (place-value a h.1 z v q)))
       form-typed t line (Convert a) h fs w =
-          operand-way w (given_type a) (type_of a) (open_against fs) (ev b call a) (plainly.ev b call' a) node_value node_value (λ fs. ev-typed a h.0 fs w) (λ j v z f q.
+          operand-way w (given_type a) (type_of a) (open_against fs) (ev b call a) (plain.ev b call' a) node_value node_value (λ fs. ev-typed a h.0 fs w) (λ j v z f q.
           done-holds order z (type_of a) j v (own-value a (type_of a) h.1 z v q))
       form-typed t line (Not a) h fs w =
-          operand-way w (given_type a) t (open_against fs) (ev b call a) (plainly.ev b call' a) _ _ (λ fs. ev-typed a h.0 fs w) (λ j v z f q.
+          operand-way w (given_type a) t (open_against fs) (ev b call a) (plain.ev b call' a) _ _ (λ fs. ev-typed a h.0 fs w) (λ j v z f q.
           work-way z line (op.Negates v) t j (given_type a, q, h.3))
       form-typed t line (Unary o a) h fs w =
-          operand-way w (given_type a) t (open_against fs) (ev b call a) (plainly.ev b call' a) _ _ (λ fs. ev-typed a h.1 fs w) (λ j v z f q.
-          seq order (Is (IntTy h.0)) (Gave order t) z (with_conversion b a v) (plain.with_conversion b a v) _ _ (converted-way a (IntTy h.0) z v h.1 h.2 q) (λ v y g r.
+          operand-way w (given_type a) t (open_against fs) (ev b call a) (plain.ev b call' a) _ _ (λ fs. ev-typed a h.1 fs w) (λ j v z f q.
+          seq order (Is (IntTy h.0)) (Gave order t) z (with_conversion b a v) (parts.with_conversion b a v) _ _ (converted-way a (IntTy h.0) z v h.1 h.2 q) (λ v y g r.
           work-way y line (op.CalculatesOne o (kind_of t) v) t j (subst (λ u. Promised b os y (op.CalculatesOne o (kind_of u) v) u) (sym h.4) (h.3, r, refl))))
       form-typed t line (Cast a) h fs w =
-          operand-way w (given_type a) t (open_against fs) (ev b call a) (plainly.ev b call' a) _ _ (λ fs. ev-typed a h.0 fs w) (λ j v z f q.
+          operand-way w (given_type a) t (open_against fs) (ev b call a) (plain.ev b call' a) _ _ (λ fs. ev-typed a h.0 fs w) (λ j v z f q.
           work-way z line (op.Converts (how_to b false (type_of a) t) v) t j (type_of a, own-value a (type_of a) h.1 z v q, inl (false, refl, h.2)))
       form-typed t line (Arithmetic o a d) h fs w =
-          operand-way w (given_type a) t (open_against fs) (ev b call a) (plainly.ev b call' a) _ _ (λ fs. ev-typed a h.2 fs w) (λ j v z f q.
-          operand-way z (given_type d) t j (ev b call d) (plainly.ev b call' d) _ _ (λ fs. ev-typed d h.4 fs z) (λ j x y g r.
-          seq order (Is (IntTy h.0)) (Gave order t) y (with_conversion b a v) (plain.with_conversion b a v) _ _ (converted-way a (IntTy h.0) y v h.2 h.3 (order.keeps (given_type a) v g q)) (λ v k i p.
-          seq order (Is (IntTy h.1)) (Gave order t) k (with_conversion b d x) (plain.with_conversion b d x) _ _ (converted-way d (IntTy h.1) k x h.4 h.5 (order.keeps (given_type d) x i r)) (λ x m n s.
+          operand-way w (given_type a) t (open_against fs) (ev b call a) (plain.ev b call' a) _ _ (λ fs. ev-typed a h.2 fs w) (λ j v z f q.
+          operand-way z (given_type d) t j (ev b call d) (plain.ev b call' d) _ _ (λ fs. ev-typed d h.4 fs z) (λ j x y g r.
+          seq order (Is (IntTy h.0)) (Gave order t) y (with_conversion b a v) (parts.with_conversion b a v) _ _ (converted-way a (IntTy h.0) y v h.2 h.3 (order.keeps (given_type a) v g q)) (λ v k i p.
+          seq order (Is (IntTy h.1)) (Gave order t) k (with_conversion b d x) (parts.with_conversion b d x) _ _ (converted-way d (IntTy h.1) k x h.4 h.5 (order.keeps (given_type d) x i r)) (λ x m n s.
           work-way m line (op.Calculates o (kind_of (type_of a)) v x) t j
           (subst (λ u. Promised b os m (op.Calculates o (kind_of u) v x) t) (sym h.3.1) (h.0, h.1, h.6, λ n g. g, h.7, order.keeps (IntTy h.0) v n p, s, h.8))))))
       form-typed t line (Comma a d) h fs w =
-          operand-way w (given_type a) t (open_against fs) (ev b call a) (plainly.ev b call' a) _ _ (λ fs. ev-typed a h.0 fs w) (λ j v z f q.
-          later-way z (given_type d) t (sequence_point j) (ev b call d) (plainly.ev b call' d) node_value node_value (λ fs. ev-typed d h.2 fs z) (λ j x y g r.
+          operand-way w (given_type a) t (open_against fs) (ev b call a) (plain.ev b call' a) _ _ (λ fs. ev-typed a h.0 fs w) (λ j v z f q.
+          later-way z (given_type d) t (sequence_point j) (ev b call d) (plain.ev b call' d) node_value node_value (λ fs. ev-typed d h.2 fs z) (λ j x y g r.
           done-holds order y t j x (own-value d t h.3 y x r)))
       form-typed t line (Assign a d) h fs w =
-          operand-way w (given_type a) t (open_against fs) (ev b call a) (plainly.ev b call' a) _ _ (λ fs. ev-typed a h.0 fs w) (λ j p z f q.
-          operand-way z (given_type d) t j (ev b call d) (plainly.ev b call' d) _ _ (λ fs. ev-typed d h.2 fs z) (λ j v y g r.
-          seq order (Is t) (Gave order t) y (with_conversion b d v) (plain.with_conversion b d v) _ _ (converted-way d t y v h.2 h.3 r) (λ v k i s.
+          operand-way w (given_type a) t (open_against fs) (ev b call a) (plain.ev b call' a) _ _ (λ fs. ev-typed a h.0 fs w) (λ j p z f q.
+          operand-way z (given_type d) t j (ev b call d) (plain.ev b call' d) _ _ (λ fs. ev-typed d h.2 fs z) (λ j v y g r.
+          seq order (Is t) (Gave order t) y (with_conversion b d v) (parts.with_conversion b d v) _ _ (converted-way d t y v h.2 h.3 r) (λ v k i s.
           writing-way k (lvalue b (type_of a)) line p v (source_of d v) j t t node_value node_value
           (type_of a, refl, h.5, subst IsValueType h.4 h.6, h.4, order.keeps (PointerTo (type_of a)) p (order.on g i) (place-value a h.1 z p q), s) (λ j v y g r. done-holds order y t j v r))))
       form-typed t line (Call f xs) h fs w = call-typed t line f h.0 [] xs h.2 (open_against fs) w (λ z g rest k. calls line f t h.0 rest z h.1 k)
       form-typed t line (CallPointer a xs) h fs w =
           let ft = FunctionTy h.0 h.1 h.2 in
-          operand-way w (given_type a) t (open_against fs) (ev b call a) (plainly.ev b call' a) _ _ (λ fs. ev-typed a h.3 fs w) (λ j p z f q.
-          subst (λ x. Typed t z (ev_through b call line (pointed_to x) p [] xs j) (plainly.ev_through b call' line (pointed_to x) p [] xs j)) (sym h.4.0.1)
+          operand-way w (given_type a) t (open_against fs) (ev b call a) (plain.ev b call' a) _ _ (λ fs. ev-typed a h.3 fs w) (λ j p z f q.
+          subst (λ x. Typed t z (ev_through b call line (pointed_to x) p [] xs j) (parts.ev_through b call' line (pointed_to x) p [] xs j)) (sym h.4.0.1)
           (through-typed t line ft p h.1 h.2 [] xs h.6 j z (own-value a (PointerTo ft) h.4 z p q) (λ y g rest k f r.
           let one = called-function b h.0 h.1 h.2 (function_in f) r.0 r.1 h.7 in
           weaker order (Is h.0) (Is t) (λ v x m. ((h.5 (layouts b.unit) v).0 m.0, m.1)) y (call (function_in f) rest line) (call' (function_in f) rest line)
           (calls line (function_in f) h.0 h.1 rest y one.0 (k one.1)))))
       form-typed t line (LibraryCall f xs) h fs w = ask-typed t line f h.0 h.1 [] xs h.2 h.3 (open_against fs) w tt
       form-typed t line (ArrayPointer a) h fs w =
-          operand-way w (given_type a) t (open_against fs) (ev b call a) (plainly.ev b call' a) node_value node_value (λ fs. ev-typed a h.0 fs w) (λ j v z f q.
+          operand-way w (given_type a) t (open_against fs) (ev b call a) (plain.ev b call' a) node_value node_value (λ fs. ev-typed a h.0 fs w) (λ j v z f q.
           done-holds order z t j v (subst (λ u. Value b z u v) (sym h.2.1) (place-value a h.1 z v q)))
       form-typed t line (Member a n) h fs w =
-          operand-way w (given_type a) (PointerTo t) (open_against fs) (ev b call a) (plainly.ev b call' a) _ _ (λ fs. ev-typed a h.0 fs w) (λ j v z f q.
+          operand-way w (given_type a) (PointerTo t) (open_against fs) (ev b call a) (plain.ev b call' a) _ _ (λ fs. ev-typed a h.0 fs w) (λ j v z f q.
           work-way z line (op.Selects n v) (PointerTo t) j (type_of a, t, place-value a h.1 z v q, refl))
       form-typed t line (Arrow a n) h fs w =
-          operand-way w (given_type a) (PointerTo t) (open_against fs) (ev b call a) (plainly.ev b call' a) _ _ (λ fs. ev-typed a h.1 fs w) (λ j v z f q.
+          operand-way w (given_type a) (PointerTo t) (open_against fs) (ev b call a) (plain.ev b call' a) _ _ (λ fs. ev-typed a h.1 fs w) (λ j v z f q.
           work-way z line (op.Selects n v) (PointerTo t) j (h.0, t, own-value a (PointerTo h.0) h.2 z v q, refl))
       form-typed t line (MemberOfValue a n) h fs w =
-          operand-way w (given_type a) t (open_against fs) (ev b call a) (plainly.ev b call' a) _ _ (λ fs. ev-typed a h.0 fs w) (λ j v z f q.
+          operand-way w (given_type a) t (open_against fs) (ev b call a) (plain.ev b call' a) _ _ (λ fs. ev-typed a h.0 fs w) (λ j v z f q.
           work-way z line (op.TakesPart n (lvalue b t) v) t j (type_of a, own-value a (type_of a) h.1 z v q, h.4, h.2, h.3, refl, h.5))
       form-typed t line (Indirection a) h fs w =
-          operand-way w (given_type a) (given_by t (Indirection a)) (open_against fs) (ev b call a) (plainly.ev b call' a) _ _ (λ fs. ev-typed a h.1 fs w) (λ j v z f q.
+          operand-way w (given_type a) (given_by t (Indirection a)) (open_against fs) (ev b call a) (plain.ev b call' a) _ _ (λ fs. ev-typed a h.1 fs w) (λ j v z f q.
           work-way z line (op.Follows (is_void t) v) (given_by t (Indirection a)) j (h.0, own-value a (PointerTo h.0) h.2 z v q, followed h.0 t h.3))
       form-typed t line (Subscript a d) h fs w =
-          operand-way w (given_type a) (PointerTo t) (open_against fs) (ev b call a) (plainly.ev b call' a) _ _ (λ fs. ev-typed a h.0 fs w) (λ j v z f q.
-          operand-way z (given_type d) (PointerTo t) j (ev b call d) (plainly.ev b call' d) _ _ (λ fs. ev-typed d h.2 fs z) (λ j x y g r.
+          operand-way w (given_type a) (PointerTo t) (open_against fs) (ev b call a) (plain.ev b call' a) _ _ (λ fs. ev-typed a h.0 fs w) (λ j v z f q.
+          operand-way z (given_type d) (PointerTo t) j (ev b call d) (plain.ev b call' d) _ _ (λ fs. ev-typed d h.2 fs z) (λ j x y g r.
           work-way y line (op.Moves false (is_pointer (type_of a)) (element_size b (if is_pointer (type_of a) then type_of a else type_of d)) v x) (PointerTo t) j
           (type_of a, type_of d, t, order.keeps (type_of a) v g (own-value a (type_of a) h.1 z v q), own-value d (type_of d) h.3 y x r, element-small (type_of a) (type_of d) t h.4, refl)))
       form-typed t line (PointerSum o a d) h fs w =
-          operand-way w (given_type a) t (open_against fs) (ev b call a) (plainly.ev b call' a) _ _ (λ fs. ev-typed a h.0 fs w) (λ j v z f q.
-          operand-way z (given_type d) t j (ev b call d) (plainly.ev b call' d) _ _ (λ fs. ev-typed d h.2 fs z) (λ j x y g r.
+          operand-way w (given_type a) t (open_against fs) (ev b call a) (plain.ev b call' a) _ _ (λ fs. ev-typed a h.0 fs w) (λ j v z f q.
+          operand-way z (given_type d) t j (ev b call d) (plain.ev b call' d) _ _ (λ fs. ev-typed d h.2 fs z) (λ j x y g r.
           let e = sum-pointer (type_of a) (type_of d) t h.4 in
           work-way y line (op.Moves (is_minus o) (is_pointer (type_of a)) (element_size b t) v x) t j
           (type_of a, type_of d, e.1.0, order.keeps (type_of a) v g (own-value a (type_of a) h.1 z v q), own-value d (type_of d) h.3 y x r, e.0, e.1.1)))
       form-typed t line (PointerDifference a d) h fs w =
-          operand-way w (given_type a) t (open_against fs) (ev b call a) (plainly.ev b call' a) _ _ (λ fs. ev-typed a h.2 fs w) (λ j v z f q.
-          operand-way z (given_type d) t j (ev b call d) (plainly.ev b call' d) _ _ (λ fs. ev-typed d h.4 fs z) (λ j x y g r.
+          operand-way w (given_type a) t (open_against fs) (ev b call a) (plain.ev b call' a) _ _ (λ fs. ev-typed a h.2 fs w) (λ j v z f q.
+          operand-way z (given_type d) t j (ev b call d) (plain.ev b call' d) _ _ (λ fs. ev-typed d h.4 fs z) (λ j x y g r.
           work-way y line (op.Subtracts (element_size b (type_of a)) v x) t j (
             h.0,
             h.1,
@@ -474,80 +475,80 @@ module _ (b : Setting) (os : List ℕ)
             h.7,
           )))
       form-typed t line (PointerOrder o a d) h fs w =
-          operand-way w (given_type a) t (open_against fs) (ev b call a) (plainly.ev b call' a) _ _ (λ fs. ev-typed a h.2 fs w) (λ j v z f q.
-          operand-way z (given_type d) t j (ev b call d) (plainly.ev b call' d) _ _ (λ fs. ev-typed d h.4 fs z) (λ j x y g r.
+          operand-way w (given_type a) t (open_against fs) (ev b call a) (plain.ev b call' a) _ _ (λ fs. ev-typed a h.2 fs w) (λ j v z f q.
+          operand-way z (given_type d) t j (ev b call d) (plain.ev b call' d) _ _ (λ fs. ev-typed d h.4 fs z) (λ j x y g r.
           work-way y line (op.Orders o v x) t j
           (h.0, h.1, order.keeps (PointerTo h.0) v g (own-value a (PointerTo h.0) h.3 z v q), own-value d (PointerTo h.1) h.5 y x r, h.6, h.7)))
       form-typed t line (PointerEquality o a d) h fs w =
-          operand-way w (given_type a) t (open_against fs) (ev b call a) (plainly.ev b call' a) _ _ (λ fs. ev-typed a h.2 fs w) (λ j v z f q.
-          operand-way z (given_type d) t j (ev b call d) (plainly.ev b call' d) _ _ (λ fs. ev-typed d h.4 fs z) (λ j x y g r.
-          seq order (Is (PointerTo h.0)) (Gave order t) y (with_conversion b a v) (plain.with_conversion b a v) _ _ (converted-way a (PointerTo h.0) y v h.2 h.3 (order.keeps (given_type a) v g q)) (λ v k i p.
-          seq order (Is (PointerTo h.1)) (Gave order t) k (with_conversion b d x) (plain.with_conversion b d x) _ _ (converted-way d (PointerTo h.1) k x h.4 h.5 (order.keeps (given_type d) x i r)) (λ x m n s.
+          operand-way w (given_type a) t (open_against fs) (ev b call a) (plain.ev b call' a) _ _ (λ fs. ev-typed a h.2 fs w) (λ j v z f q.
+          operand-way z (given_type d) t j (ev b call d) (plain.ev b call' d) _ _ (λ fs. ev-typed d h.4 fs z) (λ j x y g r.
+          seq order (Is (PointerTo h.0)) (Gave order t) y (with_conversion b a v) (parts.with_conversion b a v) _ _ (converted-way a (PointerTo h.0) y v h.2 h.3 (order.keeps (given_type a) v g q)) (λ v k i p.
+          seq order (Is (PointerTo h.1)) (Gave order t) k (with_conversion b d x) (parts.with_conversion b d x) _ _ (converted-way d (PointerTo h.1) k x h.4 h.5 (order.keeps (given_type d) x i r)) (λ x m n s.
           work-way m line (op.Equals (is_unequal o) v x) t j (h.0, h.1, order.keeps (PointerTo h.0) v n p, s, h.6)))))
       form-typed t line (LogicalAnd a d) h fs w =
-          operand-way w (given_type a) t (open_against fs) (ev b call a) (plainly.ev b call' a) _ _ (λ fs. ev-typed a h.0 fs w) (λ j v z f q.
+          operand-way w (given_type a) t (open_against fs) (ev b call a) (plain.ev b call' a) _ _ (λ fs. ev-typed a h.0 fs w) (λ j v z f q.
           doing-way z line (op.Tests v) t t _ _ (given_type a, q, h.6) (λ v y g r.
           choice order (Gave order t) y (is_true v) _ _ _ _
-          (later-way y (given_type d) t (sequence_point j) (ev b call d) (plainly.ev b call' d) _ _ (λ fs. ev-typed d h.2 fs y) (λ j x k i p. work-way k line (op.Tests x) t j (given_type d, p, h.6)))
+          (later-way y (given_type d) t (sequence_point j) (ev b call d) (plain.ev b call' d) _ _ (λ fs. ev-typed d h.2 fs y) (λ j x k i p. work-way k line (op.Tests x) t j (given_type d, p, h.6)))
           (done-holds order y t (sequence_point j) v r)))
       form-typed t line (LogicalOr a d) h fs w =
-          operand-way w (given_type a) t (open_against fs) (ev b call a) (plainly.ev b call' a) _ _ (λ fs. ev-typed a h.0 fs w) (λ j v z f q.
+          operand-way w (given_type a) t (open_against fs) (ev b call a) (plain.ev b call' a) _ _ (λ fs. ev-typed a h.0 fs w) (λ j v z f q.
           doing-way z line (op.Tests v) t t _ _ (given_type a, q, h.6) (λ v y g r.
           choice order (Gave order t) y (is_true v) _ _ _ _
           (done-holds order y t (sequence_point j) v r)
-          (later-way y (given_type d) t (sequence_point j) (ev b call d) (plainly.ev b call' d) _ _ (λ fs. ev-typed d h.2 fs y) (λ j x k i p. work-way k line (op.Tests x) t j (given_type d, p, h.6)))))
+          (later-way y (given_type d) t (sequence_point j) (ev b call d) (plain.ev b call' d) _ _ (λ fs. ev-typed d h.2 fs y) (λ j x k i p. work-way k line (op.Tests x) t j (given_type d, p, h.6)))))
       form-typed t line (Conditional a d c) h fs w =
-          operand-way w (given_type a) t (open_against fs) (ev b call a) (plainly.ev b call' a) _ _ (λ fs. ev-typed a h.0 fs w) (λ j v z f q.
+          operand-way w (given_type a) t (open_against fs) (ev b call a) (plain.ev b call' a) _ _ (λ fs. ev-typed a h.0 fs w) (λ j v z f q.
           doing-way z line (op.Tests v) (IntTy Int) t _ _ (given_type a, q, refl) (λ v y g r.
           choice order (Gave order t) y (is_true v) _ _ _ _
-          (later-way y (given_type d) t (sequence_point j) (ev b call d) (plainly.ev b call' d) _ _ (λ fs. ev-typed d h.3 fs y) (λ j x k i p.
-          seq order (Is t) (Gave order t) k (with_conversion b d x) (plain.with_conversion b d x) (node_value j) (node_value j) (converted-way d t k x h.3 h.4 p) (λ x m n s. done-holds order m t j x s)))
-          (later-way y (given_type c) t (sequence_point j) (ev b call c) (plainly.ev b call' c) _ _ (λ fs. ev-typed c h.5 fs y) (λ j x k i p.
-          seq order (Is t) (Gave order t) k (with_conversion b c x) (plain.with_conversion b c x) (node_value j) (node_value j) (converted-way c t k x h.5 h.6 p) (λ x m n s. done-holds order m t j x s)))))
+          (later-way y (given_type d) t (sequence_point j) (ev b call d) (plain.ev b call' d) _ _ (λ fs. ev-typed d h.3 fs y) (λ j x k i p.
+          seq order (Is t) (Gave order t) k (with_conversion b d x) (parts.with_conversion b d x) (node_value j) (node_value j) (converted-way d t k x h.3 h.4 p) (λ x m n s. done-holds order m t j x s)))
+          (later-way y (given_type c) t (sequence_point j) (ev b call c) (plain.ev b call' c) _ _ (λ fs. ev-typed c h.5 fs y) (λ j x k i p.
+          seq order (Is t) (Gave order t) k (with_conversion b c x) (parts.with_conversion b c x) (node_value j) (node_value j) (converted-way c t k x h.5 h.6 p) (λ x m n s. done-holds order m t j x s)))))
       form-typed t line (CompoundAssign o k a d) h fs w =
           let valued : IsValueType t = subst IsValueType (sym h.6) tt in
-          operand-way w (given_type a) t (open_against fs) (ev b call a) (plainly.ev b call' a) _ _ (λ fs. ev-typed a h.2 fs w) (λ j p z f q.
+          operand-way w (given_type a) t (open_against fs) (ev b call a) (plain.ev b call' a) _ _ (λ fs. ev-typed a h.2 fs w) (λ j p z f q.
           reading-way z (lvalue b (type_of a)) line p j t t _ _ (type_of a, refl, h.10, subst IsValueType h.7 valued, h.7, place-value a h.3 z p q) (λ j v y g r.
-          operand-way y (given_type d) t j (ev b call d) (plainly.ev b call' d) _ _ (λ fs. ev-typed d h.4 fs y) (λ j x c i s.
+          operand-way y (given_type d) t j (ev b call d) (plain.ev b call' d) _ _ (λ fs. ev-typed d h.4 fs y) (λ j x c i s.
           seq order (Is (IntTy k)) (Gave order t) c (act b line (op.Converts (Rounds k) v)) (act_plainly b line (op.Converts (Rounds k) v)) _ _ (acts line (op.Converts (Rounds k) v) (IntTy k) c (t, order.keeps t v i r, inr (k, refl, refl, subst IsIntegerType (sym h.6) tt))) (λ v m n s2.
-          seq order (Is (IntTy h.1)) (Gave order t) m (with_conversion b d x) (plain.with_conversion b d x) _ _ (converted-way d (IntTy h.1) m x h.4 h.5 (order.keeps (given_type d) x n s)) (λ x m2 n2 s3.
-          seq order (Is (IntTy (kind_of t))) (Gave order t) m2 (combining b line o k (kind_of t) v x) (plain.combining b line o k (kind_of t) v x) _ _ (combining-way m2 line o k (kind_of t) v x (k, h.1, h.8, λ n g. g, h.9, order.keeps (IntTy k) v n2 s2, s3, refl)) (λ v m3 n3 s4.
+          seq order (Is (IntTy h.1)) (Gave order t) m (with_conversion b d x) (parts.with_conversion b d x) _ _ (converted-way d (IntTy h.1) m x h.4 h.5 (order.keeps (given_type d) x n s)) (λ x m2 n2 s3.
+          seq order (Is (IntTy (kind_of t))) (Gave order t) m2 (combining b line o k (kind_of t) v x) (parts.combining b line o k (kind_of t) v x) _ _ (combining-way m2 line o k (kind_of t) v x (k, h.1, h.8, λ n g. g, h.9, order.keeps (IntTy k) v n2 s2, s3, refl)) (λ v m3 n3 s4.
           writing-way m3 (lvalue b (type_of a)) line p v None j t t node_value node_value
           (type_of a, refl, h.10, subst IsValueType h.7 valued, h.7, order.keeps (PointerTo (type_of a)) p (order.on g (order.on i (order.on n (order.on n2 n3)))) (place-value a h.3 z p q), subst (λ u. Value b m3 u v) (int-type t h.0 h.6) s4) (λ j v y g r. done-holds order y t j v r)))))))
       form-typed t line (PointerAssign o a d) h fs w =
           let valued : IsValueType t = subst IsValueType (sym h.6) tt in
-          operand-way w (given_type a) t (open_against fs) (ev b call a) (plainly.ev b call' a) _ _ (λ fs. ev-typed a h.1 fs w) (λ j p z f q.
+          operand-way w (given_type a) t (open_against fs) (ev b call a) (plain.ev b call' a) _ _ (λ fs. ev-typed a h.1 fs w) (λ j p z f q.
           reading-way z (lvalue b (type_of a)) line p j t t _ _ (type_of a, refl, h.9, subst IsValueType h.7 valued, h.7, place-value a h.2 z p q) (λ j v y g r.
-          operand-way y (given_type d) t j (ev b call d) (plainly.ev b call' d) _ _ (λ fs. ev-typed d h.3 fs y) (λ j x c i s.
+          operand-way y (given_type d) t j (ev b call d) (plain.ev b call' d) _ _ (λ fs. ev-typed d h.3 fs y) (λ j x c i s.
           doing-way c line (op.Moves (is_minus o) true (element_size b t) v x) t t _ _
           (t, type_of d, h.0, order.keeps t v i r, own-value d (type_of d) h.4 c x s, subst (λ u. element_size b u ≤ 2 ^ 32) (sym h.6) h.8.small, h.6) (λ v m n s2.
           writing-way m (lvalue b (type_of a)) line p v None j t t node_value node_value
           (type_of a, refl, h.9, subst IsValueType h.7 valued, h.7, order.keeps (PointerTo (type_of a)) p (order.on g (order.on i n)) (place-value a h.2 z p q), s2) (λ j v y g r. done-holds order y t j v r)))))
       form-typed t line (Increment o a) h fs w =
-          operand-way w (given_type a) t (open_against fs) (ev b call a) (plainly.ev b call' a) _ _ (λ fs. ev-typed a h.0 fs w) (λ j p z f q.
+          operand-way w (given_type a) t (open_against fs) (ev b call a) (plain.ev b call' a) _ _ (λ fs. ev-typed a h.0 fs w) (λ j p z f q.
           reading-way z (lvalue b (type_of a)) line p j t t _ _ (type_of a, refl, h.4, subst IsValueType h.2 (step-valued t h.3), h.2, place-value a h.1 z p q) (λ j v y g r.
-          seq order (Is t) (Gave order t) y (stepping b line t o v) (plain.stepping b line t o v) _ _ (stepping-way y line t o v h.3 r) (λ x m n s.
+          seq order (Is t) (Gave order t) y (stepping b line t o v) (parts.stepping b line t o v) _ _ (stepping-way y line t o v h.3 r) (λ x m n s.
           writing-way m (lvalue b (type_of a)) line p x None j t t _ _
           (type_of a, refl, h.4, subst IsValueType h.2 (step-valued t h.3), h.2, order.keeps (PointerTo (type_of a)) p (order.on g n) (place-value a h.1 z p q), s) (λ j x c i k.
           done-holds order c t j (if is_after o then v else x) (either-value (is_after o) c t v x (order.keeps t v (order.on n i) r) k)))))
 
       -- 6.5.2.2p10: the arguments that are left, and the call
-      call-typed : (t : Ty) (line f : ℕ) (us : Tys) (got : List Worth) (xs : Arguments) → ArePassed b.unit os us false xs → (j : Open) (w : World) → ((z : World) → To w z → (rest : List Worth) → AreValues b z us rest → Holds order (Is t) z (call f (got ++ rest) line) (call' f (got ++ rest) line)) → Typed t w (ev_call b call line f got xs j) (plainly.ev_call b call' line f got xs j)
+      call-typed : (t : Ty) (line f : ℕ) (us : Tys) (got : List Worth) (xs : Arguments) → ArePassed b.unit os us false xs → (j : Open) (w : World) → ((z : World) → To w z → (rest : List Worth) → AreValues b z us rest → Holds order (Is t) z (call f (got ++ rest) line) (call' f (got ++ rest) line)) → Typed t w (ev_call b call line f got xs j) (parts.ev_call b call' line f got xs j)
       call-typed t line f NoTys got NoArguments h j w k =
           seq order (Is t) (Gave order t) w (call f got line) (call' f got line) (node_value (sequence_point j)) (node_value (sequence_point j))
           (subst (λ vs. Holds order (Is t) w (call f vs line) (call' f vs line)) (append-nil got) (k w order.here [] tt)) (λ v z g q. done-holds order z t (sequence_point j) v q)
       call-typed t line f (MoreTys u us) got NoArguments h j w k = absurd h
       call-typed t line f NoTys got (MoreArguments x xs) h j w k = absurd h
       call-typed t line f (MoreTys u us) got (MoreArguments x xs) h j w k =
-          operand-way w (given_type x) t j (ev b call x) (plainly.ev b call' x) _ _ (λ fs. ev-typed x h.0 fs w) (λ j v z g q.
-          seq order (λ v w. Value b w (bare_type u) v × IsThere v) (Gave order t) z (accepted_value b x v) (plain.accepted_value b x v) _ _ (handed-way x (bare_type u) z v h.0 h.1 q) (λ v y i p.
+          operand-way w (given_type x) t j (ev b call x) (plain.ev b call' x) _ _ (λ fs. ev-typed x h.0 fs w) (λ j v z g q.
+          seq order (λ v w. Value b w (bare_type u) v × IsThere v) (Gave order t) z (accepted_value b x v) (parts.accepted_value b x v) _ _ (handed-way x (bare_type u) z v h.0 h.1 q) (λ v y i p.
           call-typed t line f us (got ++ v ∷ []) xs h.3 j y (λ m n rest r.
           subst (λ vs. Holds order (Is t) m (call f vs line) (call' f vs line)) (sym (append_assoc got (v ∷ []) rest)) (k m (order.on g (order.on i n)) (v ∷ rest) (order.keeps (bare_type u) v n p.0, p.1, r)))))
 
       -- 6.5.2.2p1, p10: the same of a call by a value: behind the arguments its function is found
       through-typed : (t : Ty) (line : ℕ) (r : Ty) (p : Worth) (us : Tys) (variadic : Bool) (got : List Worth) (xs : Arguments) → ArePassed b.unit os us variadic xs → (j : Open) (w : World) → Value b w (PointerTo r) p
           → ((z : World) → To w z → (rest : List Worth) → (variadic ≡ false → AreValues b z us rest) → (f : Worth) → MayBeCalled b r f z → Holds order (Is t) z (call (function_in f) (got ++ rest) line) (call' (function_in f) (got ++ rest) line))
-          → Typed t w (ev_through b call line r p got xs j) (plainly.ev_through b call' line r p got xs j)
+          → Typed t w (ev_through b call line r p got xs j) (parts.ev_through b call' line r p got xs j)
       through-typed t line r p NoTys variadic got NoArguments h j w v k =
           seq order (λ f z. MayBeCalled b r f z) (Gave order t) w (act b line (op.Finds r p)) (act_plainly b line (op.Finds r p)) _ _ (acting.finds-way b os line r r p w v) (λ f z g q.
           seq order (Is t) (Gave order t) z (call (function_in f) got line) (call' (function_in f) got line) (node_value (sequence_point j)) (node_value (sequence_point j))
@@ -555,26 +556,26 @@ module _ (b : Setting) (os : List ℕ)
       through-typed t line r p (MoreTys u us) variadic got NoArguments h j w v k = absurd h
       through-typed t line r p NoTys false got (MoreArguments x xs) h j w v k = absurd h
       through-typed t line r p NoTys true got (MoreArguments x xs) h j w v k =
-          operand-way w (given_type x) t j (ev b call x) (plainly.ev b call' x) _ _ (λ fs. ev-typed x h.0 fs w) (λ j y z g q.
-          seq order (λ v w. Value b w (type_of x) v × IsThere v) (Gave order t) z (accepted_value b x y) (plain.accepted_value b x y) _ _ (handed-way x (type_of x) z y h.0 h.1 q) (λ y m i n.
+          operand-way w (given_type x) t j (ev b call x) (plain.ev b call' x) _ _ (λ fs. ev-typed x h.0 fs w) (λ j y z g q.
+          seq order (λ v w. Value b w (type_of x) v × IsThere v) (Gave order t) z (accepted_value b x y) (parts.accepted_value b x y) _ _ (handed-way x (type_of x) z y h.0 h.1 q) (λ y m i n.
           through-typed t line r p NoTys true (got ++ y ∷ []) xs h.3 j m (order.keeps (PointerTo r) p (order.on g i) v) (λ a c rest d f e.
           subst (λ vs. Holds order (Is t) a (call (function_in f) vs line) (call' (function_in f) vs line)) (sym (append_assoc got (y ∷ []) rest)) (k a (order.on g (order.on i c)) (y ∷ rest) (λ s. absurd cc) f e))))
       through-typed t line r p (MoreTys u us) variadic got (MoreArguments x xs) h j w v k =
-          operand-way w (given_type x) t j (ev b call x) (plainly.ev b call' x) _ _ (λ fs. ev-typed x h.0 fs w) (λ j y z g q.
-          seq order (λ v w. Value b w (bare_type u) v × IsThere v) (Gave order t) z (accepted_value b x y) (plain.accepted_value b x y) _ _ (handed-way x (bare_type u) z y h.0 h.1 q) (λ y m i n.
+          operand-way w (given_type x) t j (ev b call x) (plain.ev b call' x) _ _ (λ fs. ev-typed x h.0 fs w) (λ j y z g q.
+          seq order (λ v w. Value b w (bare_type u) v × IsThere v) (Gave order t) z (accepted_value b x y) (parts.accepted_value b x y) _ _ (handed-way x (bare_type u) z y h.0 h.1 q) (λ y m i n.
           through-typed t line r p us variadic (got ++ y ∷ []) xs h.3 j m (order.keeps (PointerTo r) p (order.on g i) v) (λ a c rest d f e.
           subst (λ vs. Holds order (Is t) a (call (function_in f) vs line) (call' (function_in f) vs line)) (sym (append_assoc got (y ∷ []) rest)) (k a (order.on g (order.on i c)) (y ∷ rest) (λ s. (order.keeps (bare_type u) y c n.0, n.1, d s)) f e))))
 
       -- 7.1.4p1: the same of a function of the library
-      ask-typed : (t : Ty) (line : ℕ) (f : Library) (us : Tys) (variadic : Bool) (got : List Arg) (xs : Arguments) → IsResultOf f t → ArePassed b.unit os us variadic xs → (j : Open) (w : World) → Each (λ (x : Arg). IsArgument w.memory.table x.value) got → Typed t w (ev_ask b call line f got xs j) (plainly.ev_ask b call' line f got xs j)
+      ask-typed : (t : Ty) (line : ℕ) (f : Library) (us : Tys) (variadic : Bool) (got : List Arg) (xs : Arguments) → IsResultOf f t → ArePassed b.unit os us variadic xs → (j : Open) (w : World) → Each (λ (x : Arg). IsArgument w.memory.table x.value) got → Typed t w (ev_ask b call line f got xs j) (parts.ev_ask b call' line f got xs j)
       ask-typed t line f NoTys variadic got NoArguments r h j w k = work-way w line (op.Asks f got) t (sequence_point j) (r, k)
       ask-typed t line f (MoreTys u us) variadic got NoArguments r h j w k = absurd h
       ask-typed t line f NoTys false got (MoreArguments x xs) r h j w k = absurd h
       ask-typed t line f NoTys true got (MoreArguments x xs) r h j w k =
-          operand-way w (given_type x) t j (ev b call x) (plainly.ev b call' x) _ _ (λ fs. ev-typed x h.0 fs w) (λ j v z g q.
-          seq order (λ v w. Value b w (type_of x) v × IsThere v) (Gave order t) z (accepted_value b x v) (plain.accepted_value b x v) _ _ (handed-way x (type_of x) z v h.0 h.1 q) (λ v y i p.
+          operand-way w (given_type x) t j (ev b call x) (plain.ev b call' x) _ _ (λ fs. ev-typed x h.0 fs w) (λ j v z g q.
+          seq order (λ v w. Value b w (type_of x) v × IsThere v) (Gave order t) z (accepted_value b x v) (parts.accepted_value b x v) _ _ (handed-way x (type_of x) z v h.0 h.1 q) (λ v y i p.
           ask-typed t line f NoTys true (got ++ argument x v ∷ []) xs r h.3 j y (more-fair w z y got x (type_of x) v g i k p.0)))
       ask-typed t line f (MoreTys u us) variadic got (MoreArguments x xs) r h j w k =
-          operand-way w (given_type x) t j (ev b call x) (plainly.ev b call' x) _ _ (λ fs. ev-typed x h.0 fs w) (λ j v z g q.
-          seq order (λ v w. Value b w (bare_type u) v × IsThere v) (Gave order t) z (accepted_value b x v) (plain.accepted_value b x v) _ _ (handed-way x (bare_type u) z v h.0 h.1 q) (λ v y i p.
+          operand-way w (given_type x) t j (ev b call x) (plain.ev b call' x) _ _ (λ fs. ev-typed x h.0 fs w) (λ j v z g q.
+          seq order (λ v w. Value b w (bare_type u) v × IsThere v) (Gave order t) z (accepted_value b x v) (parts.accepted_value b x v) _ _ (handed-way x (bare_type u) z v h.0 h.1 q) (λ v y i p.
           ask-typed t line f us variadic (got ++ argument x v ∷ []) xs r h.3 j y (more-fair w z y got x (bare_type u) v g i k p.0)))

@@ -348,7 +348,7 @@ module _ (b : Setting) (os : List ℕ) (w : World) (sound : IsSound b os w) wher
   answers (op.MakesLiteral l) t h a = absurd h
   answers (op.MakesFunction f) t h a = absurd h
   answers (op.Ends o) t h a = absurd h
-  answers op.BeginsBody t h a = absurd h
+  answers (op.BeginsBody f n) t h a = absurd h
   answers op.EndsBody t h a = absurd h
   answers (op.Fills o v) t h a = absurd h
   answers (op.Puts o offset l v) t h a = absurd h

@@ -20,7 +20,7 @@ use Rattle.pv_object.specs.Creating.{with_new_bytes, without}
 use Rattle.pv_object.proofs.Born.{IsBorn, born}
 use Rattle.pv_typed.specs.Known.{Each}
 use Rattle.pv_typed.specs.TypedUnits.{object_at, literal_at}
-use Rattle.pv_world.specs.Worlds.{Worth, World, Bindings}
+use Rattle.pv_world.specs.Worlds.{Worth, World, Bindings, Body}
 use Rattle.pv_world.specs.Objects.{bind, bound_in, bind_in, owning, owner_of, instance_of, base_in, makes_object}
 use Rattle.pv_world.specs.ObjectParts.{owned_next, object_made, filling}
 use Rattle.pv_eval.specs.States.{Setting, State}
@@ -54,8 +54,8 @@ use Rattle.pv_guards.proofs.LibraryLeads.{blank-fair, cleared-in-fair}
 use Rattle.pv_guards.proofs.Sure.{Sure, does-sure}
 
 -- 6.9.1: a body has begun, above these
-abbrev pub InBody : List Bindings → World → Type 0
-InBody rest z = (m : Bindings) × (z.bodies ≡ m ∷ rest)
+abbrev pub InBody : List Body → World → Type 0
+InBody rest z = (m : Body) × (z.bodies ≡ m ∷ rest)
 
 -- a later world, whose bodies may be others
 pub record IsLater (w z : World) : Type 0 where
@@ -66,7 +66,7 @@ pub record IsLater (w z : World) : Type 0 where
   pub functions : z.functions ≡ w.functions
 
 -- within a body: a later world than that in which it was begun, which is sound; the body's own objects were made since
-pub record Within (b : Setting) (os : List ℕ) (rest : List Bindings) (w z : World) : Type 0 where
+pub record Within (b : Setting) (os : List ℕ) (rest : List Body) (w z : World) : Type 0 where
   pub later : IsLater w z
   pub sound : IsSound b os z
   pub body : InBody rest z
@@ -247,6 +247,10 @@ get-here m o i q h = let t : eqb q o ≡ true = grind (arith, nat_tests) in get-
 get-other : (m : Bindings) (o i q : ℕ) → q ≢ o → map.get (map.insert m o i) q ≡ map.get m q
 get-other m o i q h = let t : eqb q o ≡ false = grind (arith, nat_tests) in get-insert nat_cmp_total m o i q ∙ ap (λ t. cond t (Some i) (map.get m q)) (unsigned_tied q o ∙ t)
 
+-- 6.2.4p6: the body, in which the object has this instance from now on
+abbrev with_bound : Body → (o i : ℕ) → Body
+with_bound m o i = record m { bindings = map.insert m.bindings o i }
+
 -- 6.2.4p2: the number that a binding gives an object
 abbrev pub bound_number : Bindings → ℕ → ℕ
 bound_number m q = unwrap_or (map.get m q) 0
@@ -265,29 +269,29 @@ inserted P m o i q h g = by (same_or_not q o)
     by (inr n) = subst P (sym (bound-other m o i q n)) (g n)
 
 -- a side of a pair changes no binding
-pub within-sided : (b : Setting) (os : List ℕ) (rest : List Bindings) (w : World) (v : Worth) (z : World) (k : ℕ) (high : Bool) → Within b os rest w z → Within b os rest w (with_side z k high)
+pub within-sided : (b : Setting) (os : List ℕ) (rest : List Body) (w : World) (v : Worth) (z : World) (k : ℕ) (high : Bool) → Within b os rest w z → Within b os rest w (with_side z k high)
 within-sided b os rest w v z k high h =
     let g = sides-keep b os z k high h.sound in
     record { later = later-after h.later g.0; sound = g.1; body = (h.body.0, g.0.bodies ∙ h.body.1); own = own-after b os w z (with_side z k high) g.0 h.own }
 
-module _ (b : Setting) (os : List ℕ) (rest : List Bindings) (w : World) where
+module _ (b : Setting) (os : List ℕ) (rest : List Body) (w : World) where
   -- 6.2.4p2, p6: an automatic object begins, in an instance of its own
   module _ (z : World) (h : Within b os rest w z) (o : ℕ) (automatic : (object_at b.unit o).lasting ≡ false) where
     module _ (i : ℕ) (y : World) (statics : y.statics ≡ z.statics) (bodies : y.bodies ≡ bind_in z.bodies o i) where
       abbrev Numbered : ℕ → Type 0
       Numbered q = ((q ≡ o) × (instance_for b q y ≡ i)) ⊎ (IsInScope b.unit os q × (instance_for b q y ≡ instance_for b q z))
 
-      own-bodies : y.bodies ≡ map.insert h.body.0 o i ∷ rest
+      own-bodies : y.bodies ≡ with_bound h.body.0 o i ∷ rest
       own-bodies = bodies ∙ ap (λ ms. bind_in ms o i) h.body.1
 
       number-here : (q : ℕ) → q ≡ o → instance_for b q y ≡ i
       number-here q e =
-          ap (λ c. instance_of y q c) (ap (λ n. (object_at b.unit n).lasting) e ∙ automatic) ∙ ap (λ ms. unwrap_or (bound_in ms q) 0) own-bodies ∙ bound-here h.body.0 o i q e
+          ap (λ c. instance_of y q c) (ap (λ n. (object_at b.unit n).lasting) e ∙ automatic) ∙ ap (λ ms. unwrap_or (bound_in ms q) 0) own-bodies ∙ bound-here h.body.0.bindings o i q e
 
       number-other : (q : ℕ) (c : Bool) → q ≢ o → IsIn q (if c then b.unit.statics else o ∷ os) → IsIn q (if c then b.unit.statics else os) × (instance_of y q c ≡ instance_of z q c)
       number-other q true d g = (g, ap (λ m. bound_number m q) statics)
       number-other q false d g =
-          (still d g, ap (λ ms. unwrap_or (bound_in ms q) 0) own-bodies ∙ bound-other h.body.0 o i q d ∙ sym (ap (λ ms. unwrap_or (bound_in ms q) 0) h.body.1))
+          (still d g, ap (λ ms. unwrap_or (bound_in ms q) 0) own-bodies ∙ bound-other h.body.0.bindings o i q d ∙ sym (ap (λ ms. unwrap_or (bound_in ms q) 0) h.body.1))
         where
           still : q ≢ o → (q ≡ o) ⊎ IsIn q os → IsIn q os
           still d (inl e) = absurd (d e)
@@ -357,7 +361,7 @@ module _ (b : Setting) (os : List ℕ) (rest : List Bindings) (w : World) where
                 h.sound.code j f (code-earlier z.memory.table U a j c) (sym (owner-other z M i (Some o) (length z.memory.table.instances) n.number h.sound.owned j d) ∙ g);
             owned = let more = owners-more z M i (Some o) (length z.memory.table.instances) n.number h.sound.owned in let long = n.longer in omega (arith, more, long);
           };
-          body = (map.insert h.body.0 o i, ap (λ ms. bind_in ms o i) h.body.1);
+          body = (with_bound h.body.0 o i, ap (λ ms. bind_in ms o i) h.body.1);
           own = own-now i y refl refl U a new home;
         }
     begun name r (Err y, U) large object stored e l a next = tt

@@ -47,7 +47,7 @@ module _ (b : Setting) (os : List ℕ) (w : World) where
   promised (Makes o) t h = absurd h
   promised (MakesLiteral l) t h = absurd h
   promised (Ends o) t h = absurd h
-  promised BeginsBody t h = absurd h
+  promised (BeginsBody f n) t h = absurd h
   promised EndsBody t h = absurd h
   promised (Fills o v) t h = absurd h
   promised (Puts o offset l v) t h = absurd h
@@ -80,7 +80,7 @@ module _ (b : Setting) (os : List ℕ) (w : World) where
   asked (Makes o) t h = tt
   asked (MakesLiteral l) t h = tt
   asked (Ends o) t h = tt
-  asked BeginsBody t h = tt
+  asked (BeginsBody f n) t h = tt
   asked EndsBody t h = tt
   asked (Fills o v) t h = tt
   asked (Puts o offset l v) t h = absurd h

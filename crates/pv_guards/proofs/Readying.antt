@@ -39,10 +39,9 @@ use Rattle.pv_eval.specs.Constants.{constant_worth, place_by}
 use Rattle.pv_eval.specs.Objects.{heap_name, request_of, text_for, instance_for}
 use Rattle.pv_eval.specs.Operations.{Makes, MakesLiteral, MakesFunction, Fills, Puts, PutsText, act}
 use Rattle.pv_exec.specs.Laying.{IsLaidOut}
-use Rattle.pv_exec.specs.Calls.{below}
-use Rattle.pv_exec.specs.Preparing.{make_static, store_constant, store_static, prepare}
+use Rattle.pv_exec.specs.OfRuns.{below, make_static, store_constant, store_static, prepare, call_main}
 use Rattle.pv_exec.specs.Lists.{make_statics, make_literals, make_functions, store_statics, initialize_statics}
-use Rattle.pv_exec.specs.Run.{initial_state, call_main, run_of}
+use Rattle.pv_exec.specs.Run.{run_of_by, initial_state, run_of}
 use Rattle.pv_exec.proofs.Memory.Rows.{Leads as Led}
 use Rattle.pv_exec.proofs.Memory.Tables.{place-leads}
 use Rattle.pv_exec.proofs.Memory.Runs.{first-sound}
@@ -56,8 +55,8 @@ use Rattle.pv_guards.specs.Typed.{IsIn, IsValueType, HasBody}
 use Rattle.pv_guards.specs.Soundness.{Value, IsFairWorth, IsHomeIn, IsHome, IsCodeIn, IsCode, IsSound, AllLiveStill}
 use Rattle.pv_guards.specs.TypedStatements.{IsMakeable, LiesIn, IsPlaced, IsConstantOf, IsConstant, AreConstants, IsTypedUnit}
 use Rattle.pv_guards.specs.Plain.{act_plainly}
-use Rattle.pv_guards.specs.PlainExecution as plain
-use Rattle.pv_guards.specs.PlainRun as plainly
+use Rattle.pv_guards.specs.PlainRun as plain
+use Rattle.pv_guards.specs.PlainParts as parts
 use Rattle.pv_guards.specs.PlainLists as lists
 use Rattle.pv_guards.proofs.Fair.{store-later, written-fair, plain-fair}
 use Rattle.pv_guards.proofs.Found.{no-name}
@@ -330,7 +329,7 @@ module _ (b : Setting) (unit : IsTypedUnit b.unit) where
   statics-sure ss [] m s h = (refl, h)
   statics-sure ss (o ∷ os) m s h =
       let line = (object_at b.unit o).line in
-      sure-seq (λ v z. Ready b (o ∷ ss) [] [] z) (λ v z. Ready b (o ∷ os ++ ss) [] [] z) (make_static b o s) (plainly.make_static b o s) _ _
+      sure-seq (λ v z. Ready b (o ∷ ss) [] [] z) (λ v z. Ready b (o ∷ os ++ ss) [] [] z) (make_static b o s) (parts.make_static b o s) _ _
       (sure-seq (λ v z. Ready b (o ∷ ss) [] [] z) (λ v z. Ready b (o ∷ ss) [] [] z) (act b line (Makes o) s) (act_plainly b line (Makes o) s) _ _ (makes-static ss [] [] line o s (m o (inl refl)) h) (λ v t k. fills-ready b (o ∷ ss) [] [] line o t (m o (inl refl)) (inl refl) k (Some 0) some-zero)) (λ v t k.
       sure-more (λ v z. Ready b (os ++ o ∷ ss) [] [] z) (λ v z. Ready b (o ∷ os ++ ss) [] [] z) (make_statics b os t) (lists.make_statics b os t)
       (λ v z q. less-ready (o ∷ os ++ ss) [] [] (os ++ o ∷ ss) [] [] z (moved-in o os ss) (λ n g. g) (λ n g. g) q) (statics-sure (o ∷ ss) os (λ q g. m q (inr g)) t k))
@@ -402,10 +401,10 @@ module _ (b : Setting) (unit : IsTypedUnit b.unit) where
 
   -- 6.7.9p4: the stores of a static object
   module _ (o : ℕ) (among : IsIn o b.unit.statics) where
-    static-sure : (x : Store) (v : StoredValue) → LiesIn b.unit o x → IsConstant b.unit x.t v → (s : State) → All s.world → Sure (λ v z. All z) (store_static b o x v s) (plainly.store_static b o x v s)
+    static-sure : (x : Store) (v : StoredValue) → LiesIn b.unit o x → IsConstant b.unit x.t v → (s : State) → All s.world → Sure (λ v z. All z) (store_static b o x v s) (parts.store_static b o x v s)
     static-sure x (ValueOf e) lies (c, is, placed, typed) s h =
         let w = s.world in
-        subst (λ q. Sure (λ v z. All z) (store_constant b o x q s) (plainly.store_constant b o x q s)) (sym is)
+        subst (λ q. Sure (λ v z. All z) (store_constant b o x q s) (parts.store_constant b o x q s)) (sym is)
         (puts-ready b b.unit.statics b.unit.instances b.unit.placed x.line o s (unit.statics o among) among h x.offset x.t (constant_worth w c) lies (constant-valued c (bare_type x.t) typed)
         (constant-typed w c (bare_type x.t) typed, constant-fair w c h placed) (constant-there w c))
     static-sure x (TextOf l) lies m s h =
@@ -413,7 +412,7 @@ module _ (b : Setting) (unit : IsTypedUnit b.unit) where
 
     stored-sure : (xs : List Store) → AreConstants b.unit o xs → (s : State) → All s.world → Sure (λ v z. All z) (store_statics b o xs s) (lists.store_statics b o xs s)
     stored-sure [] m s h = (refl, h)
-    stored-sure (x ∷ xs) m s h = sure-seq (λ v z. All z) (λ v z. All z) (store_static b o x x.what s) (plainly.store_static b o x x.what s) _ _ (static-sure x x.what m.0.0 m.0.1 s h) (λ v t k. stored-sure xs m.1 t k)
+    stored-sure (x ∷ xs) m s h = sure-seq (λ v z. All z) (λ v z. All z) (store_static b o x x.what s) (parts.store_static b o x x.what s) _ _ (static-sure x x.what m.0.0 m.0.1 s h) (λ v t k. stored-sure xs m.1 t k)
 
   initials-sure : (os : List ℕ) → ((o : ℕ) → IsIn o os → IsIn o b.unit.statics) → (s : State) → All s.world → Sure (λ v z. All z) (initialize_statics b os s) (lists.initialize_statics b os s)
   initials-sure [] m s h = (refl, h)
@@ -427,7 +426,7 @@ module _ (b : Setting) (unit : IsTypedUnit b.unit) where
   none-behind (o ∷ os) n (inr h) = inr (none-behind os n h)
   none-behind [] n h = absurd h
 
-  prepare-sure : (s : State) → Ready b [] [] [] s.world → Sure (λ v z. All z) (prepare b s) (plainly.prepare b s)
+  prepare-sure : (s : State) → Ready b [] [] [] s.world → Sure (λ v z. All z) (prepare b s) (parts.prepare b s)
   prepare-sure s h =
       let ss = b.unit.statics in
       let ls = b.unit.instances in
@@ -460,14 +459,14 @@ module _ (b : Setting) (unit : IsTypedUnit b.unit) where
     owned = h.owned;
   }
 
-  main-sure : (o : Option ℕ) → main_of b.unit ≡ o → (s : State) → All s.world → Sure (λ v z. IsGiven o v) (call_main b o s) (plainly.call_main b o s)
+  main-sure : (o : Option ℕ) → main_of b.unit ≡ o → (s : State) → All s.world → Sure (λ v z. IsGiven o v) (call_main b o s) (parts.call_main b o s)
   main-sure None e s h = (refl, tt)
   main-sure (Some f) e s h =
       let m = unit.main f e in
       let x = function_at b.unit f in
       let r = m.2.0 in
-      let p = call-sure b unit (below b b.bound) (plain.below b b.bound) (levels b unit b.bound) [] x r NoTys (unit.functions f r NoTys m.0 m.2.1) m.2.1 m.1 [] x.line s tt (ready-sound s.world h) in
-      sure-more _ (λ v z. IsGiven (Some f) v) (call_main b (Some f) s) (plainly.call_main b (Some f) s) (λ v z q. subst (λ t. IsOfType (layouts b.unit) t v) m.2.2 (to-bare (layouts b.unit) r v q.0.0)) p
+      let p = call-sure b unit (below b b.bound) (parts.below b b.bound) (levels b unit b.bound) [] x r NoTys (unit.functions f r NoTys m.0 m.2.1) m.2.1 m.1 [] x.line s tt (ready-sound s.world h) in
+      sure-more _ (λ v z. IsGiven (Some f) v) (call_main b (Some f) s) (parts.call_main b (Some f) s) (λ v z q. subst (λ t. IsOfType (layouts b.unit) t v) m.2.2 (to-bare (layouts b.unit) r v q.0.0)) p
 
   no-code-yet : (i : ℕ) → IsCodeIn (instance_at [] i) → ⊥
   no-code-yet i h = by (eqb i 0) h
@@ -488,12 +487,12 @@ module _ (b : Setting) (unit : IsTypedUnit b.unit) where
     owned = omega arith;
   }
 
-  run-sure : (script : List ScriptLine) → Sure (λ v z. IsGiven (main_of b.unit) v) (run_of b script) (plainly.run_of b script)
-  unfolding run_of plainly.run_of
+  run-sure : (script : List ScriptLine) → Sure (λ v z. IsGiven (main_of b.unit) v) (run_of b script) (plain.run_of b script)
+  unfolding run_of_by
   run-sure script =
-      sure-seq (λ v z. All z) (λ v z. IsGiven (main_of b.unit) v) (prepare b (initial_state script b.zap)) (plainly.prepare b (initial_state script b.zap)) _ _ (prepare-sure (initial_state script b.zap) (first-ready script)) (λ v t k. main-sure (main_of b.unit) refl t k)
+      sure-seq (λ v z. All z) (λ v z. IsGiven (main_of b.unit) v) (prepare b (initial_state script b.zap)) (parts.prepare b (initial_state script b.zap)) _ _ (prepare-sure (initial_state script b.zap) (first-ready script)) (λ v t k. main-sure (main_of b.unit) refl t k)
 
-  pub run-same : (script : List ScriptLine) → run_of b script ≡ plainly.run_of b script
+  pub run-same : (script : List ScriptLine) → run_of b script ≡ plain.run_of b script
   run-same script = (run-sure script).0
 
   -- 5.1.2.2.3p1: what `main` gives

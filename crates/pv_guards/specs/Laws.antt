@@ -13,7 +13,7 @@ use Rattle.pv_eval.specs.Operations.{Op, does}
 use Rattle.pv_guards.specs.Typed.{given_type, IsFunction}
 use Rattle.pv_guards.specs.Soundness.{Value, AreValues, IsSound, IsAfter}
 use Rattle.pv_guards.specs.Plain.{plain_doing}
-use Rattle.pv_guards.specs.PlainEvaluation as plain
+use Rattle.pv_guards.specs.PlainRun as plain
 
 -- 6.5p1: where a piece of a run gives something, its value is of this type, and the world after it is later than the one before, and sound
 abbrev pub GivesSound : {A : Type 0} → Setting → (automatic : List ℕ) → (A → Worth) → Ty → (before : World) → Res A → Type 0

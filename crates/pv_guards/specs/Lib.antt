@@ -3,11 +3,9 @@ pub mod Typed
 pub mod Fair
 pub mod Soundness
 pub mod Plain
-pub mod PlainSteps
-pub mod PlainEvaluation
-pub mod PlainExecution
 pub mod PlainLists
 pub mod PlainRun
+pub mod PlainParts
 pub mod Promises
 pub mod TypedStatements
 pub mod Laws

@@ -1,5 +1,5 @@
 -- What operations do without their guards (C17 6.2.4, 6.3, 6.5, 6.7.9, 7).
-use Rattle.std.specs.Prelude.{ℕ, None}
+use Rattle.std.specs.Prelude.{ℕ, false, None}
 use Rattle.pv_script.specs.Names.{name_at as text_of}
 use Rattle.pv_shadow.specs.Whole.{number_bytes}
 use Rattle.pv_typed.specs.TypedUnits.{object_at, function_at, literal_at}
@@ -11,6 +11,7 @@ use Rattle.pv_eval.specs.States.{Setting, State, Res}
 use Rattle.pv_eval.specs.TypeForms.{size_of}
 use Rattle.pv_eval.specs.Acting.{after_doing}
 use Rattle.pv_eval.specs.Objects.{request_of, text_for}
+use Rattle.pv_exec.specs.Rules.{Rules}
 use Rattle.pv_eval.specs.Operations.{Op, Makes, MakesLiteral, MakesFunction, Ends, Fills, Puts, PutsText, works}
 
 -- each operation does what its rule says (6.2.4, 6.3, 6.5, 6.7.9, 7). It is not asked whether its operands are of their types, and not whether
@@ -29,3 +30,7 @@ plain_doing b op w = works b op w
 -- what an operation does without its guards in the state of a run (5.1.2.3), for the node in this line
 abbrev pub act_plainly : Setting → (line : ℕ) → Op → State → Res Worth
 act_plainly b line op s = after_doing b line (plain_doing b op s.world) s
+
+-- what a run without guards goes by (5.1.2.3): there is no outcome where C has no rule
+abbrev pub rules : Rules
+rules = record { act = act_plainly; total = false }

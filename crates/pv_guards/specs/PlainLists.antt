@@ -7,8 +7,7 @@ use Rattle.pv_guards.specs.Plain.{act_plainly}
 use Rattle.pv_exec.specs.Flows.{each}
 use Rattle.pv_typed.specs.TypedUnits.{object_at, Store, literal_at, function_at}
 use Rattle.pv_eval.specs.Steps.{Calling}
-use Rattle.pv_guards.specs.PlainExecution.{stores_value}
-use Rattle.pv_guards.specs.PlainRun.{make_static, store_static}
+use Rattle.pv_guards.specs.PlainParts.{stores_value, make_static, store_static}
 
 -- the objects of a block are made when it is entered, in the order of their declarations (which is our choice)
 abbrev pub make_all : Setting → List ℕ → State → Res Worth

@@ -26,8 +26,8 @@ use Rattle.pv_eval.specs.Acting.{marked_events, after_telling, noted_with, after
 use Rattle.pv_eval.specs.Constants.{constant_worth}
 use Rattle.pv_eval.specs.Operations.{Op, Puts, does}
 use Rattle.pv_eval.proofs.Closed.{beside_setting}
-use Rattle.pv_exec.specs.Calls.{below}
-use Rattle.pv_exec.specs.Run.{setting_of, initial_state, run_of}
+use Rattle.pv_exec.specs.OfRuns.{below}
+use Rattle.pv_exec.specs.Run.{setting_of, initial_state, run_of_by, run_of}
 use Rattle.pv_exec.specs.Laws.{run_at}
 use Rattle.pv_exec.specs.Laying.{HasNoEmptyTag, table_at}
 use Rattle.pv_exec.specs.Outlets.{event_of}
@@ -215,7 +215,7 @@ module _ (u : Stored) (n : ℕ) (named : HasNames (whole_unit u)) (filled : HasN
           by false e = none (i - 1) e
 
   run-ends : (script : List ScriptLine) → Ends u.names (run_at u None true script n)
-  unfolding run_of
+  unfolding run_of_by
   run-ends script = run-closed b n b.sides passing n (alike n) (initial_state script true) (first-holds script)
 
 ends_pass : {A : Type 0} (names : List (List ℕ)) (r : Res A) → Ends names r → AllPass names (end_of r)

@@ -275,7 +275,7 @@ module _ (b : Setting) (u : HasNames b.unit) (filled : Filled b) (turn : ℕ) wh
   works-come (MakesLiteral l) w f e = literals-come l w
   works-come (MakesFunction g) w f e = functions-come g w
   works-come (Ends o) w f e = ended-comes o w
-  works-come BeginsBody w f e = record { comes = record { tells = tells-itself; named = λ n. n } }
+  works-come (BeginsBody g l) w f e = record { comes = record { tells = tells-itself; named = λ n. n } }
   works-come EndsBody w f e = record { comes = record { tells = tells-itself; named = λ n. n } }
   works-come (Fills o v) w f e = possible-comes (can_fill b o w) w _ (λ c. put-comes w _ (replicate (size_of b (object_at b.unit o).t) (filling v)) _ (same_numbered (size_of b (object_at b.unit o).t) (filling v) tt))
   works-come (Puts o offset l v) w f e =

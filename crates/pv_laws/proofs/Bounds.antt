@@ -12,8 +12,9 @@ use Rattle.pv_eval.specs.Acting.{after_doing}
 use Rattle.pv_eval.specs.Constants.{constant_worth}
 use Rattle.pv_eval.specs.Operations.{Op, Puts, does, act}
 use Rattle.pv_eval.proofs.Closed.{beside_setting}
-use Rattle.pv_exec.specs.Calls.{below}
-use Rattle.pv_exec.specs.Run.{setting_of, initial_state, run_of}
+use Rattle.pv_exec.specs.Calls.{below_by}
+use Rattle.pv_exec.specs.OfRuns.{below}
+use Rattle.pv_exec.specs.Run.{setting_of, initial_state, run_of_by, run_of}
 use Rattle.pv_exec.specs.Laws.{run_at}
 use Rattle.pv_exec.proofs.Executed.{WaysIn, Alike, below-closed, run-closed}
 use Rattle.pv_exec.specs.Staying.{InstancesRemain, PairsSettle}
@@ -78,7 +79,7 @@ going b l le =
 
 -- where the first has no level left
 bottom : (b : Setting) (l : ℕ) (le : b.bound ≤ l) (k : ℕ) → Alike b l b.sides (going b l le).ways zero (below b zero) (below (beside_setting b l b.sides) k)
-unfolding below
+unfolding below_by
 bottom b l le k =
     let g = alike (beside_setting b l b.sides) k in
     record {
@@ -88,7 +89,7 @@ bottom b l le k =
     }
 
 run-beside : (u : Stored) (sides : Option (List Bool)) (zap : Bool) (script : List ScriptLine) (n l : ℕ) → n ≤ l → let b = setting_of u n sides zap in Beside (Filled b) (run_at u sides zap script n) (run_at u sides zap script l)
-unfolding run_of
+unfolding run_of_by
 run-beside u sides zap script n l le =
     let b = setting_of u n sides zap in
     (run-closed b l sides (going b l le) n (below-closed b l sides (going b l le).ways (bottom b l le) n l le)).beside (initial_state script zap)

@@ -69,7 +69,7 @@ fn make_literal(rt: &impl Abort, world: &mut World, names: &Names, told: &mut Ve
 
 /// An object of a body lives, and ends with it.
 fn live_in_a_body(rt: &impl Abort, world: &mut World, names: &Names, told: &mut Vec<What>) {
-    world.begin_body().expect(rt, "no memory");
+    world.begin_body(2, 7).expect(rt, "no memory");
     make(rt, world, names, 4, 2, false, told);
     let i = world.instance(4, false);
     match world.memory().instances().info(i) {

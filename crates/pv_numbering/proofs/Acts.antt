@@ -45,7 +45,7 @@ pub record ActsAlike (b : Setting) (m' : Known) : Type 0 where
   pub makes_literal : (l : ℕ) → ActAlike b m' (MakesLiteral l) (MakesLiteral l)
   pub makes_function : (f : ℕ) → ActAlike b m' (MakesFunction f) (MakesFunction f)
   pub ends : (o : ℕ) → ActAlike b m' (Ends o) (Ends o)
-  pub begins_body : ActAlike b m' BeginsBody BeginsBody
+  pub begins_body : (f line : ℕ) → ActAlike b m' (BeginsBody f line) (BeginsBody f line)
   pub ends_body : ActAlike b m' EndsBody EndsBody
   pub fills : (o : ℕ) (v : Option ℕ) → ActAlike b m' (Fills o v) (Fills o v)
   pub puts : (o offset : ℕ) (l l' : Lvalue) (v v' : Worth) → AlikeLvalue b.types m' l l' → AlikeWorth b.types m' v v' → ActAlike b m' (Puts o offset l v) (Puts o offset l' v')

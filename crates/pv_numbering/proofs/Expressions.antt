@@ -23,10 +23,11 @@ use Rattle.pv_num.specs.Kinds.{promotion_of}
 use Rattle.pv_eval.specs.Conversions.{how_to}
 use Rattle.pv_eval.specs.Accesses.{access_to}
 use Rattle.pv_eval.specs.Operations.{Op, Converts, Calculates, CalculatesOne, Tests, Negates, Accepts, Moves, Subtracts, Orders, Equals, Follows, Selects, Finds, TakesPart, Reads, Writes, NamesObject, NamesLiteral, NamesFunction, Asks}
-use Rattle.pv_eval.specs.Sequenced.{Given, with_given, node_value, work, operand, later_operand}
-use Rattle.pv_eval.specs.Steps.{Calling, with_conversion, accepted_value, reading, writing, source_of, is_unequal, is_minus, is_down, is_after, combining, stepping}
+use Rattle.pv_eval.specs.Sequenced.{Given, with_given, node_value, operand, later_operand}
+use Rattle.pv_eval.specs.OfRuns.{work, with_conversion, accepted_value, reading, writing, combining, stepping, ev_call, ev_through, ev_ask}
+use Rattle.pv_eval.specs.Steps.{Calling, source_of, is_unequal, is_minus, is_down, is_after}
 use Rattle.pv_eval.specs.Arguments.{argument}
-use Rattle.pv_eval.specs.Evaluation.{ev, ev_call, ev_through, ev_ask}
+use Rattle.pv_eval.specs.Evaluation.{ev_by, ev}
 use Rattle.pv_eval.specs.CalleeParts.{function_in}
 use Rattle.pv_numbering.proofs.Alike.{with_types, AlikeWorth, AlikeWorths, AlikeLvalue, AlikeGiven}
 use Rattle.pv_numbering.proofs.Acts.{ActAlike, ActsAlike}
@@ -111,7 +112,7 @@ module _ {b : Setting} {m' : Known} (acts : ActsAlike b m') where
         subst (λ (q : ℕ). Pieces b m' Same (call (function_in f) got line) (call' q got' line)) (sym (ap unsigned_abs (int-same b.types m' f f' i))) (h (function_in f) got got' e line)
 
     mutual
-      unfolding ev
+      unfolding ev_by
 
       pub ev-alike : (x : TypedTree) → AllTypes (AlikeType b m') x → (fs : List Access) → Pieces b m' GivenAlike (ev b call x fs) (ev c call' x fs)
       ev-alike (Node t line turn (Constant n)) p fs = ticks (done-alike (open_against fs) (int n) (int n) refl)

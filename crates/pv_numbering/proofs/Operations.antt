@@ -102,7 +102,7 @@ module _ (b : Setting) (m' : Known) (laid : env m' ≡ env b.types) where
     makes_literal = λ l. act-alike (MakesLiteral l) (MakesLiteral l) (λ w z. refl) (λ w z c h. makes_literal-alike b m' l w z h);
     makes_function = λ f. act-alike (MakesFunction f) (MakesFunction f) (λ w z. refl) (λ w z c h. makes_function-alike b m' f w z h);
     ends = λ o. act-alike (Ends o) (Ends o) (λ w z. refl) (λ w z c h. ends-alike b m' o w z h);
-    begins_body = act-alike BeginsBody BeginsBody (λ w z. refl) (λ w z c h. begins_body-alike b m' w z h);
+    begins_body = λ f n. act-alike (BeginsBody f n) (BeginsBody f n) (λ w z. refl) (λ w z c h. begins_body-alike b m' f n w z h);
     ends_body = act-alike EndsBody EndsBody (λ w z. refl) (λ w z c h. ends_body-alike b m' w z h);
     fills = λ o v. act-alike (Fills o v) (Fills o v) (λ w z. refl) (λ w z c h. fills-alike b m' o v w z h);
     puts = λ o offset l l' v v' e g. act-alike (Puts o offset l v) (Puts o offset l' v') (λ w z. refl) (λ w z c h. puts-alike b m' o offset l l' v v' e g w z h);

@@ -40,8 +40,8 @@ module _ (b : Setting) (m' : Known) where
   pub names_function-alike : (f : ℕ) (w : World) (z : Store) → Alikes b.types m' w z → AlikeDone b.types m' (names_function f w) (names_function f (with_bytes w z))
   names_function-alike f w z h = (refl, alike_world b.types m' w z h, refl)
 
-  pub begins_body-alike : (w : World) (z : Store) → Alikes b.types m' w z → AlikeDone b.types m' (begins_body w) (begins_body (with_bytes w z))
-  begins_body-alike w z h = (tt, record { bytes = z; is = refl; alike = h }, refl)
+  pub begins_body-alike : (f line : ℕ) (w : World) (z : Store) → Alikes b.types m' w z → AlikeDone b.types m' (begins_body f line w) (begins_body f line (with_bytes w z))
+  begins_body-alike f line w z h = (tt, record { bytes = z; is = refl; alike = h }, refl)
 
   pub ends_body-alike : (w : World) (z : Store) → Alikes b.types m' w z → AlikeDone b.types m' (ends_body w) (ends_body (with_bytes w z))
   ends_body-alike w z h = (tt, record { bytes = z; is = refl; alike = h }, refl)

@@ -25,11 +25,11 @@ use Rattle.pv_eval.specs.Constants.{constant_worth}
 use Rattle.pv_eval.specs.Operations.{Makes, MakesLiteral, MakesFunction, BeginsBody, EndsBody, Fills, Puts, PutsText}
 use Rattle.pv_exec.specs.declared.outcome.Outcome.TheVariants as outcome
 use Rattle.pv_exec.specs.Flows.{Flow, Falls, Breaks, Continues, Returns, Below}
-use Rattle.pv_exec.specs.Calls.{take_params, value_by, runs_body, call_body, below}
+use Rattle.pv_exec.specs.Calls.{value_by, below_by}
+use Rattle.pv_exec.specs.OfRuns.{take_params, runs_body, call_body, below, make_static, store_constant, store_static, prepare, call_main}
 use Rattle.pv_exec.specs.CallParts.{is_main}
-use Rattle.pv_exec.specs.Preparing.{make_static, store_constant, store_static, prepare}
 use Rattle.pv_exec.specs.Lists.{make_statics, make_literals, make_functions, store_statics, initialize_statics}
-use Rattle.pv_exec.specs.Run.{initial_state, call_main, run_of, status_of, outcome_of, sides_at}
+use Rattle.pv_exec.specs.Run.{initial_state, run_of_by, run_of, status_of, outcome_of, sides_at}
 use Rattle.pv_numbering.proofs.Marks.{AlikeAt}
 use Rattle.pv_numbering.proofs.Alike.{with_types, AlikeWorth, AlikeWorths, AlikeState, AlikeRes}
 use Rattle.pv_numbering.proofs.Acts.{ActsAlike}
@@ -91,11 +91,11 @@ module _ {b : Setting} {m' : Known} (acts : ActsAlike b m') (unit : AllUnit (Ali
   -- a call of a function
   body-alike : (u u' : Below) → Beneath b m' u u' → (f : TypedFunction) → AllBody (AlikeType b m') f.body → (vs vs' : List Worth) → AlikeWorths b.types m' vs vs' → (line : ℕ) → Pieces b m' Same (call_body b u f vs line) (call_body c u' f vs' line)
   body-alike u u' h f p vs vs' e line =
-      seq (did BeginsBody BeginsBody line acts.begins_body) (λ x x' i. seq (params-alike line f.params vs vs' e) (λ x x' i. seq (runs-alike u u' h f.body p) (λ fl fl' g.
+      seq (did (BeginsBody f.name line) (BeginsBody f.name line) line (acts.begins_body f.name line)) (λ x x' i. seq (params-alike line f.params vs vs' e) (λ x x' i. seq (runs-alike u u' h f.body p) (λ fl fl' g.
       seq (end-alike acts f.params) (λ x x' i. seq (did EndsBody EndsBody line acts.ends_body) (λ x x' i. gives (value_by b f fl) (value_by c f fl') (value-alike f fl fl' g))))))
 
   below-alike : (k : ℕ) → Beneath b m' (below b k) (below c k)
-  unfolding below
+  unfolding below_by
   below-alike zero = record { call = λ f vs vs' e line. stops Unreached; again = λ x step y p q r. stops Unreached; again_do = λ y x p q. stops Unreached }
   below-alike (suc k) =
       let u : Below = below b k in
@@ -152,7 +152,7 @@ module _ {b : Setting} {m' : Known} (acts : ActsAlike b m') (unit : AllUnit (Ali
 
 -- 5.1.2.3: the two runs differ in the marks of bytes alone
 pub run-alike : (b : Setting) (m' : Known) → ActsAlike b m' → AllUnit (AlikeType b m') b.unit → (script : List ScriptLine) → AlikeRes b.types m' (AlikeWorth b.types m') (run_of b script) (run_of (with_types b m') script)
-unfolding run_of
+unfolding run_of_by
 run-alike b m' acts unit script = (whole-alike acts unit).at (initial_state script b.zap) (initial_state script b.zap) (first-alike b.types m' script b.zap)
 
 -- the reason alone tells how a run that was stopped ended

@@ -12,11 +12,11 @@ use Rattle.pv_world.specs.Worths.{is_true, int_of}
 use Rattle.pv_eval.specs.States.{Setting, State, Res, then_do, tick}
 use Rattle.pv_eval.specs.TypeForms.{lvalue, size_of}
 use Rattle.pv_eval.specs.Operations.{Tests, Accepts, Needs, Makes, Ends, Fills, Puts, PutsText}
-use Rattle.pv_exec.specs.Flows.{Flow, Falls, Breaks, Continues, Returns, Below, full_expression, testing, falls, goes_on, behind_switch, stores_value, begin_fill, declares, if_tested, then_step, round, round_do, returns_value}
-use Rattle.pv_exec.specs.Blocks.{end_all, in_block}
+use Rattle.pv_exec.specs.Flows.{Flow, Falls, Breaks, Continues, Returns, Below, falls, goes_on, behind_switch}
+use Rattle.pv_exec.specs.OfRuns.{full_expression, testing, stores_value, begin_fill, declares, if_tested, then_step, round, round_do, returns_value, end_all, in_block, ex, exs, exs_at}
 use Rattle.pv_exec.specs.Lists.{make_all, store_all}
 use Rattle.pv_exec.specs.Labels.{Target, ToCase, ToDefault, ToNone, target_of, is_target, unless_none}
-use Rattle.pv_exec.specs.Execution.{ex, exs, exs_at}
+use Rattle.pv_exec.specs.Execution.{ex_by}
 use Rattle.pv_numbering.proofs.Alike.{with_types, AlikeWorth, AlikeWorths}
 use Rattle.pv_numbering.proofs.Acts.{ActsAlike}
 use Rattle.pv_numbering.proofs.Types.{AllTypes, AllOption, AllStatement, AllStatements, AllValue, AllStore, AllUnit}
@@ -131,7 +131,7 @@ module _ {b : Setting} {m' : Known} (acts : ActsAlike b m') where
     returns-alike (Some x) line p = seq (full-alike x p) (λ v v' e. seq (converted-alike acts x v v' e) (λ v v' e. seq (did (Accepts v) (Accepts v') line (acts.accepts v v' e)) (λ v v' e. gives (Returns v) (Returns v') e)))
 
     mutual
-      unfolding ex
+      unfolding ex_by
 
       pub ex-alike : (x : TypedStatement) → AllStatement (AlikeType b m') x → Pieces b m' Left (ex b u x) (ex c u' x)
       ex-alike (Block line os xs) p = ticks (scoped-alike os (exs-alike xs p))

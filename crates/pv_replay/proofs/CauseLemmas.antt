@@ -6,8 +6,8 @@ use Rattle.pv_serve.specs.Replies.{ReplyCall, Replied}
 use Rattle.pv_serve.specs.Replying.{WasTold, WasLost, HadNoRoom}
 use Rattle.pv_serve.proofs.OwedLemmas.{two_apart}
 use Rattle.pv_serve.proofs.RepliesLemmas.{more_replied, replied_by}
-use Rattle.pv_replay.specs.Words.{Job, Write, Check, files_of, job}
-use Rattle.pv_replay.specs.Answers.{IsReply, service}
+use Rattle.pv_replay.specs.Words.{Job, Write, Check, job}
+use Rattle.pv_replay.specs.Answers.{IsReply, service, files_of}
 use Rattle.pv_replay.specs.Obeying.{IsRunJournal, WroteJournal, WritesJournals}
 use Rattle.pv_replay.specs.Answering.{IsObeyed, JobServed}
 use Rattle.pv_replay.proofs.FileLemmas.{of_files}
@@ -15,8 +15,8 @@ use Rattle.pv_replay.proofs.FileLemmas.{of_files}
 pub replied_by_job : (c : ReplyCall) (j : Job) → job c.words ≡ Some j → JobServed j c.held c.faults_old c.faults_new c.report c.status → Replied service c
 replied_by_job c j e served =
     replied_by service c j e
-    (more_replied (λ reply. IsReply j c.held reply × IsObeyed j c.held reply) (IsReply j c.held) (AnyRose (files_of j) c.faults_old c.faults_new)
-    (AnyRose (files_of j) c.faults_old c.faults_new) c.report c.status (λ reply is. is.0) (λ rose. rose) served)
+    (more_replied (λ reply. IsReply j c.held reply × IsObeyed j c.held reply) (IsReply j c.held) (AnyRose (files_of j c.held) c.faults_old c.faults_new)
+    (AnyRose (files_of j c.held) c.faults_old c.faults_new) c.report c.status (λ reply is. is.0) (λ rose. rose) served)
 
 -- ---- what `write` writes
 

@@ -1,8 +1,8 @@
 -- What is written of a run, or of a refusal, by what `judge` answers.
 use Rattle.std.proofs.Common.{◌≡◌, ℕ, ◌<◌, true, List, [], ◌∷◌, map, refl, sym, ap, subst, arith}
 use Rattle.std.specs.Prelude.{None, Result, Ok, Err, IfOk}
-use Rattle.pv_watch.specs.Slots.{Present, Told, SayAll}
-use Rattle.pv_explain.specs.Texts.{journal_kind}
+use Rattle.pv_watch.specs.Slots.{Slot, Present, Told, SayAll}
+use Rattle.pv_watch.specs.Kinds.{journal_kind}
 use Rattle.pv_exec.specs.Answering.{end_of}
 use Rattle.pv_exec.specs.Outlets.{event_of}
 use Rattle.pv_exec.specs.declared.program.Ran.{Ran}
@@ -60,6 +60,10 @@ journal_reply source script bound text j = record {
   };
   journal = λ zero. j;
 }
+
+-- what watchers say of what they have heard
+pub heard_so : (names : List (List ℕ)) (text : List ℕ) {told heard : List Slot} → told ≡ heard → SayAll names heard text → SayAll names told text
+heard_so names text same says = subst (λ (s : List Slot). SayAll names s text) (sym same) says
 
 -- the journal of the run that was made
 pub ran_reply : (source script : List ℕ) (bound : ℕ) (out : Sunk) (hall : Halls) (j : Judgement) (ran : Ran) (names : List (List ℕ)) (most : ℕ) (text : List ℕ) → hall.old ≡ Present journal_kind 65536 [] ∷ []

@@ -4,8 +4,8 @@ use Rattle.pv_serve.specs.Outside.{AnyRose, Sunk}
 use Rattle.pv_serve.specs.Answer.{OfFiles}
 use Rattle.pv_serve.specs.Replies.{Reply}
 use Rattle.pv_serve.specs.Replying.{JobReplied}
-use Rattle.pv_replay.specs.Words.{Job, Write, Check, files_of}
-use Rattle.pv_replay.specs.Answers.{IsWritten, IsReply}
+use Rattle.pv_replay.specs.Words.{Job, Write, Check}
+use Rattle.pv_replay.specs.Answers.{IsWritten, IsReply, files_of}
 use Rattle.pv_replay.specs.Obeying.{IsRunJournal}
 
 -- docs/FORMATS.md, Journals: the reply is that to the run of a source, and where its status is 0 (7.22.4.4p5), a journal of lines that obey
@@ -25,4 +25,4 @@ TextServed IsOwed report status = JobReplied IsOwed ⊥ report status
 -- docs/FORMATS.md, Journals: what came of a job: it got a reply; a file could not be read (7.21.8.1p3); or there was no memory
 abbrev pub JobServed : Job → (held : List ℕ → Option (List ℕ)) (faults_old faults_new : List ℕ → ℕ) (report : Sunk) (status : ℕ) → Type 0
 JobServed j held faults_old faults_new report status =
-    JobReplied (λ reply. IsReply j held reply × IsObeyed j held reply) (AnyRose (files_of j) faults_old faults_new) report status
+    JobReplied (λ reply. IsReply j held reply × IsObeyed j held reply) (AnyRose (files_of j held) faults_old faults_new) report status

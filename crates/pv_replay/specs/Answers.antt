@@ -1,5 +1,5 @@
 -- The reply that a source with its script, or a journal, must get.
-use Rattle.std.specs.Prelude.{◌≡◌, ℕ, ◌≤◌, ◌<◌, List, ◌++◌, length, take, codes, Option, Some, None, IfSome, true}
+use Rattle.std.specs.Prelude.{◌≡◌, ℕ, ◌≤◌, ◌<◌, List, [], ◌∷◌, ◌++◌, length, take, codes, Option, Some, None, IfSome, true}
 use Rattle.std.specs.Fmt.{decimal}
 use Rattle.pv_watch.specs.Texts as watched
 use Rattle.pv_serve.specs.declared.words.Task.TheVariants as task
@@ -7,11 +7,11 @@ use Rattle.pv_serve.specs.Verdicts.{Verdict, Course, course_of}
 use Rattle.pv_serve.specs.Judged.{Judged}
 use Rattle.pv_serve.specs.Report.{report_line, status_of, line_feed}
 use Rattle.pv_serve.specs.Outside.{AnyRose}
-use Rattle.pv_serve.specs.Answer.{OfFiles}
+use Rattle.pv_serve.specs.Answer.{OfFiles, files_read}
 use Rattle.pv_serve.specs.Replies.{Reply, Service}
 use Rattle.pv_journal.specs.Journals.{Row}
 use Rattle.pv_journal.specs.Obeying.{IsJournal, IsBad}
-use Rattle.pv_replay.specs.Words.{Job, Write, Check, files_of, job}
+use Rattle.pv_replay.specs.Words.{Job, Write, Check, job}
 
 -- ---- the journal of a run
 
@@ -68,6 +68,11 @@ abbrev pub IsReply : Job → (held : List ℕ → Option (List ℕ)) → Reply �
 IsReply (Write run) held reply = OfFiles run.file run.script held (λ source script. IsWritten source script run.bound reply)
 IsReply (Check file) held reply = IfSome (held file) (λ bytes. IsChecked bytes reply)
 
+-- docs/FORMATS.md, Journals (5.1.2.2.1p2): the files that are read for a job
+abbrev pub files_of : Job → (held : List ℕ → Option (List ℕ)) → List (List ℕ)
+files_of (Write run) held = files_read run.file run.script held
+files_of (Check file) held = file ∷ []
+
 -- docs/FORMATS.md, Journals (5.1.2.3): what the program does for its words; a fault at a name that its job doesn't name is none of the job's
 abbrev pub service : Service Job
-service = record { job = job; ReadFailed = λ j c. AnyRose (files_of j) c.faults_old c.faults_new; IsReply = IsReply }
+service = record { job = job; ReadFailed = λ j c. AnyRose (files_of j c.held) c.faults_old c.faults_new; IsReply = IsReply }

@@ -1,6 +1,6 @@
 -- What the words of the command line ask for (5.1.2.2.1p2: a program's parameters). Which words there are is this program's own: docs/FORMATS.md
 -- has the rules.
-use Rattle.std.specs.Prelude.{ℕ, List, [], ◌∷◌, length, Option, Some, None, if◌then◌else◌, nat_lt, codes, option_map, option_and_then, unwrap_or, option_to_list}
+use Rattle.std.specs.Prelude.{ℕ, List, [], ◌∷◌, length, Option, Some, None, if◌then◌else◌, nat_lt, codes, option_map, option_and_then, unwrap_or}
 use Rattle.std.specs.Str.{bytes_eq}
 use Rattle.pv_serve.specs.Jobs.{default_turns}
 use Rattle.pv_script.specs.Words.{number_to}
@@ -16,11 +16,6 @@ pub record RunJob : Type 0 where
 pub data Job : Type 0 where
   Write : (run : RunJob) → Job
   Check : (file : List ℕ) → Job
-
--- docs/FORMATS.md, Journals (5.1.2.2.1p2): the names of the files that a job reads
-abbrev pub files_of : Job → List (List ℕ)
-files_of (Write run) = run.file ∷ option_to_list run.script
-files_of (Check file) = file ∷ []
 
 -- ---- options
 

@@ -16,6 +16,9 @@ struct Devices {
     write: u64,
 }
 
+// No call fails.
+const SOUND: Devices = Devices { read: 0, write: 0 };
+
 // What is told: the status, and all that was written.
 fn text(alloc: Global, status: u8, report: &[u8]) -> Result<String, NoMemory> {
     let report = str::from_utf8(report).unwrap_or("no text");
@@ -123,5 +126,38 @@ fn each_calm_row_is_told(rt: HostRuntime) {
             let told = calmly_told(&rt, rt.alloc(), words, journal.as_str());
             expect(&rt, row, told.as_str(), wanted.as_str());
         }
+    }
+}
+
+// The longest journal that is checked, and a longer one.
+#[test]
+fn a_longer_journal_is_not_checked(rt: HostRuntime) {
+    let alloc = rt.alloc();
+    let longest = "x".repeat(alloc, 16_777_216).expect(&rt, "no memory");
+    let told_longest = told(&rt, alloc, "check j", longest.as_str(), SOUND);
+    expect(
+        &rt,
+        "the longest journal",
+        told_longest.as_str(),
+        "17\njournal bad line=1\n",
+    );
+    let longer = format!(in alloc; "{longest}x").expect(&rt, "no memory");
+    let told_longer = told(&rt, alloc, "check j", longer.as_str(), SOUND);
+    expect(
+        &rt,
+        "a longer journal",
+        told_longer.as_str(),
+        "18\njournal size\n",
+    );
+}
+
+// Runs of as many events as a journal tells, and of one more: it tells of its first ones.
+#[test]
+fn a_journal_tells_so_many_events_at_most(rt: HostRuntime) {
+    let last = "\nend a#32767 turn=294903\nend i#1 turn=294913\nevents 65536\n";
+    let cut = "\nend a#32767 turn=294903\nevents 65536\n";
+    for (words, end) in [("write many.c", last), ("write more.c", cut)] {
+        let told = told(&rt, rt.alloc(), words, "", SOUND);
+        assert!(rt; told.as_str().ends_with(end), "{words}");
     }
 }

@@ -1,12 +1,14 @@
 //! The journal of a source's run.
-ghost use Rattle.std.specs.Prelude.{◌≡◌, ◌∷◌, [], IfOk};
+ghost use Rattle.std.specs.Prelude.{◌≡◌, ◌∷◌, [], ℕ, List, true, None, IfOk};
 ghost use Rattle.pv_watch.specs.Slots.{Present};
-ghost use Rattle.pv_explain.specs.Texts.{journal_kind};
-ghost use Rattle.pv_exec.specs.Outlets.{hall_slots};
+ghost use Rattle.pv_watch.specs.Kinds.{journal_kind};
+ghost use Rattle.pv_watch.specs.Halls.{hall_slots};
 ghost use Rattle.pv_serve.specs.ReadWords.{IsBound};
 ghost use Rattle.pv_serve.specs.Judging.{Shown, verdict_of};
 ghost use Rattle.pv_serve.specs.Report.{report_line, status_of};
 ghost use Rattle.pv_serve.specs.Replying.{reply_view, IsOwn};
+ghost use Rattle.pv_serve.specs.Settling.{IsOutcome};
+ghost use Rattle.pv_serve.specs.Outside.{Sunk, Halls};
 ghost use Rattle.pv_replay.specs.Answering.{IsRunReply};
 
 use pv_serve::{JobText, Judgement, NoMemory, Nowhere, Reply, judge, line, status};
@@ -35,12 +37,26 @@ pub fn journal_of(
     let Ok(judgement) = judge(alloc, source, script, turns, true, None, &mut output, hall) else {
         return Err(NoMemory);
     };
-    match &judgement {
-        Judgement::Ran { names, .. } => Ok(Reply {
-            status: WRITTEN,
-            text: hall.texts(names)?,
-        }),
-        _ => refusal(alloc, &judgement),
+    reply_to(alloc, &judgement, hall)
+}
+
+// The journal of a run that was made before the watcher in the hall, or the line of the refusal. A judgement is let go in one place, by its
+// caller, since it has the world of a run: at each way out of a function that owns one all its tables go.
+fn reply_to(alloc: Global, judgement: &Judgement, hall: &Hall) -> Result<Reply, NoMemory>
+    ensures written { (source script : List ℕ) (bound : ℕ) (out : Sunk) (told : Halls) → told.old ≡ Present journal_kind 65536 [] ∷ []
+        → told.new ≡ hall_slots hall.now its_kind its_wants seen → IsOutcome source script bound true None out told judgement.now
+        → IfOk result (λ a. IsRunReply source script bound (reply_view a)) }
+    ensures own { IfOk result (λ a. IsOwn a.status) }
+{
+    match judgement {
+        Judgement::Ran { names, .. } => match hall.texts(names) {
+            Ok(text) => Ok(Reply {
+                status: WRITTEN,
+                text,
+            }),
+            Err(_) => Err(NoMemory),
+        },
+        _ => refusal(alloc, judgement),
     }
 }
 

@@ -14,7 +14,7 @@ use Rattle.pv_serve.specs.declared.judging.Judgement.TheVariants as judgement
 use Rattle.std.specs.declared.alloc.AllocError.{AllocError}
 use Rattle.pv_serve.specs.Verdicts.{Verdict, Course, course_of}
 use Rattle.pv_serve.specs.VerdictParts.{BeganOutput}
-use Rattle.pv_serve.specs.Jobs.{Job, FileJob, Files, Generated, files_of, task_of, sides_of, watched_of, kinds_of}
+use Rattle.pv_serve.specs.Jobs.{Job, FileJob, Files, Generated, task_of, sides_of, watched_of, kinds_of}
 use Rattle.pv_serve.specs.Words.{job, generator_count, file_job}
 use Rattle.pv_serve.specs.WordParts.{either}
 use Rattle.pv_serve.specs.Comes.{source_limit}
@@ -25,7 +25,7 @@ use Rattle.pv_serve.specs.Replying.{IsHanded}
 use Rattle.pv_serve.specs.Judging.{Shown, verdict_of, IsJudged, IsCutOff}
 use Rattle.pv_serve.specs.Report.{report_line, status_of}
 use Rattle.pv_serve.specs.Watching.{AreTold, IsReport, kept_by}
-use Rattle.pv_serve.specs.Answer.{Answer, answer_of, read_fault, HasReport, OfSource, script_needed, SomeVerdict, SomeAnswer, SomeEnd, script_held}
+use Rattle.pv_serve.specs.Answer.{Answer, answer_of, read_fault, HasReport, OfSource, script_needed, SomeVerdict, SomeAnswer, SomeEnd, script_held, files_of}
 use Rattle.pv_serve.specs.ReportParts.{no_job, words_line, fault_line}
 use Rattle.pv_serve.specs.Causes.{Call, IsAnswer, WroteReport, WroteOutput, facts_of, Served, slots_of_job}
 use Rattle.pv_serve.specs.Serving.{kept_halls, IsSource, IsReportOn, HasStory, SomeReport, Reported, IsTold, Answered, FilesServed, WereRead, WereLost, HadNoRoom}
@@ -235,10 +235,10 @@ line_report kept new a P none stays holds = record {
 }
 
 -- a call whose files could not be read
-served_by_fault : (c : Call) (j : Job) → job c.words ≡ Some j → AnyRose (files_of j) c.faults_old c.faults_new → c.out.new ≡ c.out.old → c.hall.new ≡ slots_of_job c
+served_by_fault : (c : Call) (j : Job) → job c.words ≡ Some j → AnyRose (files_of j c.held) c.faults_old c.faults_new → c.out.new ≡ c.out.old → c.hall.new ≡ slots_of_job c
     → IsHanded c.report c.status (record { status = 11; text = fault_line }) → Served c
 served_by_fault c j e rose same stays handed =
-    owed_by_fault (facts_of c) j c.status e (subst (λ (o : Option Job). IsSomeAnd o (λ i. AnyRose (files_of i) c.faults_old c.faults_new)) (sym e) rose)
+    owed_by_fault (facts_of c) j c.status e (subst (λ (o : Option Job). IsSomeAnd o (λ i. AnyRose (files_of i c.held) c.faults_old c.faults_new)) (sym e) rose)
     (λ not12. (
       (handed.told not12).0,
       record {
@@ -285,7 +285,7 @@ served_by_words c e same stays handed =
 pub served_calmly : (c : Call) → ((names : List (List ℕ)) → AnyRose names c.faults_old c.faults_new → ⊥) → (SinkRose c.out → ⊥) → (SinkRose c.report → ⊥) → Served c
     → (c.status ≡ 13) ⊎ SomeAnswer (job c.words) c.held (IsAnswer c)
 served_calmly c reads out report served =
-    served.complete (none_failed (job c.words) (λ j. AnyRose (files_of j) c.faults_old c.faults_new) (λ j. reads (files_of j))) (λ failed. elim failed [ inl rose ↦ out rose | inr rose ↦ report rose ])
+    served.complete (none_failed (job c.words) (λ j. AnyRose (files_of j c.held) c.faults_old c.faults_new) (λ j. reads (files_of j c.held))) (λ failed. elim failed [ inl rose ↦ out rose | inr rose ↦ report rose ])
 
 -- ---- those who are kept
 

@@ -1,14 +1,14 @@
 -- What is read of a job's files.
 use Rattle.std.proofs.Common.{◌≡◌, ℕ, zero, suc, ◌+◌, ◌<◌, ◌≤◌, List, [], ◌∷◌, take, length, Bool, true, false, refl, sym, ap, ◌∙◌, subst, arith}
 use Rattle.std.specs.Prelude.{Option, Some, None, IfSome, IfOk, Result, Ok, Err, option_map, Any, Vec, nat_lt, if◌then◌else◌, option_to_list}
+use Rattle.std.specs.Option.{option_map_or}
 use Rattle.std.specs.declared.alloc.Global.{Global}
 use Rattle.std.proofs.lemmas.Bool.{lt-ltb, le-ltb}
 use Rattle.pv_script.specs.Outside.{Rose}
 use Rattle.pv_script.specs.declared.reading.ReadError.{ReadError}
-use Rattle.pv_serve.specs.Plans.{files_named}
 use Rattle.pv_serve.specs.Comes.{source_limit}
 use Rattle.pv_serve.specs.Judged.{script_limit}
-use Rattle.pv_serve.specs.Answer.{script_needed, script_held}
+use Rattle.pv_serve.specs.Answer.{files_read, script_needed, script_held}
 use Rattle.pv_serve.specs.Outside.{AnyRose}
 use Rattle.pv_serve.specs.Serving.{AreRead}
 use Rattle.pv_serve.proofs.ComesLemmas.{source_limit_is}
@@ -27,11 +27,6 @@ any_map P Q xs f a = (a.0, a.1, a.2, a.3, f a.1 a.4)
 
 rose_since : (before between now : ℕ) → before ≤ between → Rose between now → Rose before now
 rose_since before between now le rose = omega arith
-
-pub script_rose : (file : List ℕ) (script : Option (List ℕ)) (old mid new : List ℕ → ℕ) → ((n : List ℕ) → old n ≤ mid n) → AnyRose (option_to_list script) mid new → AnyRose (files_named file script) old new
-script_rose file script old mid new later any =
-    any_later (λ n. Rose (old n) (new n)) file (option_to_list script)
-    (any_map (λ n. Rose (mid n) (new n)) (λ n. Rose (old n) (new n)) (option_to_list script) (λ n rose. rose_since (old n) (mid n) (new n) (later n) rose) any)
 
 one_rose : (name : List ℕ) (old new : List ℕ → ℕ) → Rose (old name) (new name) → Any (λ n. Rose (old n) (new n)) (name ∷ [])
 one_rose name old new rose = any_first (λ n. Rose (old n) (new n)) name [] rose
@@ -90,6 +85,29 @@ read_short file script held source text short told read = by (held file) told
         subst (λ (b : Bool). IfSome (if b then Some [] else script_held script held) (λ rest. (source ≡ take (source_limit + 1) all) × (text ≡ take (script_limit + 1) rest)))
         (sym (if_short (length all) short_all))
         (with_text (script_held script held) (source ≡ take (source_limit + 1) all) (λ rest. text ≡ take (script_limit + 1) rest) h read)
+
+-- ---- of which file a read failed
+
+pub source_rose : (file : List ℕ) (script : Option (List ℕ)) (held : List ℕ → Option (List ℕ)) (old new : List ℕ → ℕ) → Rose (old file) (new file) → AnyRose (files_read file script held) old new
+source_rose file script held old new rose =
+    any_first (λ n. Rose (old n) (new n)) file (if option_map_or (λ (source : List ℕ). nat_lt source_limit (length source)) (held file) false then [] else option_to_list script) rose
+
+-- of the script of a source that is not too long
+pub script_rose : (file : List ℕ) (script : Option (List ℕ)) (held : List ℕ → Option (List ℕ)) (source : List ℕ) (old mid new : List ℕ → ℕ) → length source ≤ source_limit
+    → IfSome (held file) (λ all. source ≡ take 1048577 all) → ((n : List ℕ) → old n ≤ mid n) → AnyRose (option_to_list script) mid new → AnyRose (files_read file script held) old new
+script_rose file script held source old mid new short told later any = by (held file) (source_read (held file) source told)
+  where
+    rises : AnyRose (file ∷ option_to_list script) old new
+    rises =
+        any_later (λ n. Rose (old n) (new n)) file (option_to_list script)
+        (any_map (λ n. Rose (mid n) (new n)) (λ n. Rose (old n) (new n)) (option_to_list script) (λ n rose. rose_since (old n) (mid n) (new n) (later n) rose) any)
+
+    by : (o : Option (List ℕ)) → IfSome o (λ all. source ≡ take (source_limit + 1) all)
+        → AnyRose (file ∷ (if option_map_or (λ (bytes : List ℕ). nat_lt source_limit (length bytes)) o false then [] else option_to_list script)) old new
+    by None h = rises
+    by (Some all) h =
+        let short_all = was_short source_limit all (subst (λ (s : List ℕ). length s ≤ source_limit) h short) in
+        subst (λ (b : Bool). AnyRose (file ∷ (if b then [] else option_to_list script)) old new) (sym (if_short (length all) short_all)) rises
 
 -- ---- files that hold what they held
 

@@ -14,4 +14,5 @@ pub mod CausesLemmas
 pub mod RepliesLemmas
 pub mod ReportLemmas
 pub mod WatchingLemmas
+pub mod ShippedLemmas
 pub mod SidesLemmas

@@ -17,7 +17,7 @@ use Rattle.pv_serve.specs.Judged.{Judged, Oversize, Unread, Unfit, Fit, IsToRun,
 long_part : (limit : ℕ) (all : List ℕ) → limit < length all → length (take (limit + 1) all) ≡ limit + 1
 long_part limit all long = simp length-take (omega arith)
 
-short_part : (limit : ℕ) (all : List ℕ) → length all ≤ limit → take (limit + 1) all ≡ all
+pub short_part : (limit : ℕ) (all : List ℕ) → length all ≤ limit → take (limit + 1) all ≡ all
 short_part limit all short = take_all (limit + 1) all (omega arith)
 
 pub was_short : (limit : ℕ) (all : List ℕ) → length (take (limit + 1) all) ≤ limit → length all ≤ limit
@@ -39,7 +39,7 @@ script_long : (text : List ℕ) → script_limit < length text → script_of tex
 script_long text long =
     ap (λ (b : Bool). if b then Err error.Size else all_said (after_lines 1 (slice_split (λ c. c == 10) text) [])) (above (length text) long)
 
-script_cut : (text : List ℕ) → script_of (take (script_limit + 1) text) ≡ script_of text
+pub script_cut : (text : List ℕ) → script_of (take (script_limit + 1) text) ≡ script_of text
 script_cut text = elim (cases_lt script_limit (length text)) [
   | inl long ↦ script_long (take (script_limit + 1) text) (omega (arith, long_part script_limit text long)) ∙ sym (script_long text long)
   | inr short ↦ ap script_of (short_part script_limit text short)
@@ -81,7 +81,7 @@ pub fewer_decide : (all text : List ℕ) (t : Task) (sides : Option (List Bool))
 fewer_decide all text t sides v judged =
     same_script (take (source_limit + 1) all) text (take (script_limit + 1) text) t sides v (sym (script_cut text)) (fewer_source all text t sides v judged)
 
-abbrev to_run : (all text : List ℕ) → IsToRun (take (source_limit + 1) all) (take (script_limit + 1) text) → IsToRun all text
+abbrev pub to_run : (all text : List ℕ) → IsToRun (take (source_limit + 1) all) (take (script_limit + 1) text) → IsToRun all text
 to_run all text job =
     let short = was_short source_limit all job.short in
     record {

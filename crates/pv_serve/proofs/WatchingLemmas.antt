@@ -1,14 +1,17 @@
 -- What watchers say who come to a run having seen nothing.
-use Rattle.std.proofs.Common.{◌≡◌, ℕ, ◌+◌, ◌<◌, List, [], ◌∷◌, ◌++◌, take, length, Bool, true, false, refl, sym, ap, ◌∙◌, subst, arith, append_assoc}
-use Rattle.std.specs.Prelude.{Some, ◌==◌}
-use Rattle.std.specs.List.{AllZip}
+use Rattle.std.proofs.Common.{◌≡◌, ℕ, ◌+◌, ◌<◌, List, [], ◌∷◌, ◌++◌, take, length, Bool, true, false, cond, refl, sym, ap, ◌∙◌, subst, arith, append_assoc}
+use Rattle.std.specs.Prelude.{Option, None, Some, ◌==◌}
+use Rattle.std.specs.List.{filter, AllZip}
 use Rattle.std.proofs.lemmas.Bool.Decides.{nat_tests}
 use Rattle.std.proofs.lemmas.List.{take_all, length-append, append-nil}
 use Rattle.pv_watch.specs.declared.event.Event.{Event}
 use Rattle.pv_watch.specs.Seen.{Kind}
-use Rattle.pv_watch.specs.Slots.{Slot, Present, Left, Stays, After, Told, Says, SayAll}
+use Rattle.pv_watch.specs.Kinds.{kind_meant}
+use Rattle.pv_watch.specs.Shipped.{shipped}
+use Rattle.pv_watch.specs.Slots.{Slot, Present, Left, Stays, After, Told, Says, SayAll, is_kept}
+use Rattle.pv_serve.specs.Jobs.{Job, kinds_of, watched_of}
 use Rattle.pv_serve.specs.Verdicts.{Course}
-use Rattle.pv_serve.specs.Watching.{AreFresh, AreTold, IsReport, story_of, stories}
+use Rattle.pv_serve.specs.Watching.{AreFresh, AreTold, IsReport, kept_by, story_of, stories}
 
 -- ---- one watcher
 
@@ -31,10 +34,10 @@ same_number : (m w : ℕ) → (m == w) ≡ true → m ≡ w
 same_number m w e = grind (arith, nat_tests)
 
 abbrev Tells : Kind → (wants : ℕ) → List Event → List (List ℕ) → List ℕ → Type 0
-Tells kind wants events names t = t ≡ kind.text wants (take wants events) names
+Tells kind wants events names t = t ≡ (kind_meant kind).text wants (take wants events) names
 
-tells_by : (kind : Kind) (wants : ℕ) (seen events : List Event) (names : List (List ℕ)) (t : List ℕ) → take wants events ≡ seen → t ≡ kind.text wants seen names → Tells kind wants events names t
-tells_by kind wants seen events names t e h = subst (λ (xs : List Event). t ≡ kind.text wants xs names) (sym e) h
+tells_by : (kind : Kind) (wants : ℕ) (seen events : List Event) (names : List (List ℕ)) (t : List ℕ) → take wants events ≡ seen → t ≡ (kind_meant kind).text wants seen names → Tells kind wants events names t
+tells_by kind wants seen events names t e h = subst (λ (xs : List Event). t ≡ (kind_meant kind).text wants xs names) (sym e) h
 
 -- it has seen one event more, and goes on or has left
 tells_next : (b : Bool) (kind : Kind) (wants : ℕ) (seen : List Event) (e : Event) (es : List Event) (names : List (List ℕ)) (next now : Slot) (t : List ℕ)
@@ -101,7 +104,31 @@ watchers_tell kept new c line text fresh told report = report.2 ∙ ap (λ (byte
 
 -- one watcher, and nobody else
 pub one_told : (kind : Kind) (wants : ℕ) (events : List Event) (names : List (List ℕ)) (old new : List Slot) (text : List ℕ) → 0 < wants → old ≡ Present kind wants [] ∷ [] → Told old events names new
-    → SayAll names new text → text ≡ kind.text wants (take wants events) names
+    → SayAll names new text → text ≡ (kind_meant kind).text wants (take wants events) names
 one_told kind wants events names old new text some first told says =
     all_tell (record { events = events; names = names }) (Present kind wants [] ∷ []) new text (refl, some, tt)
-    (subst (λ (ss : List Slot). Told ss events names new) first told) says ∙ append-nil (kind.text wants (take wants events) names)
+    (subst (λ (ss : List Slot). Told ss events names new) first told) says ∙ append-nil ((kind_meant kind).text wants (take wants events) names)
+
+-- ---- the watchers of the program
+
+fresh_next : (b : Bool) (s : Slot) (slots : List Slot) → AreFresh (s ∷ []) → AreFresh slots → AreFresh (cond b (s ∷ slots) slots)
+fresh_next false s slots one rest = rest
+fresh_next true (Left number text) slots one rest = absurd one
+fresh_next true (Present kind wants seen) slots one rest = (one.0, one.1, rest)
+
+fresh_kept : (p : Slot → Bool) (slots : List Slot) → AreFresh slots → AreFresh (filter p slots)
+fresh_kept p [] fresh = tt
+fresh_kept p ((Left number text) ∷ slots) fresh = absurd fresh
+fresh_kept p ((Present kind wants seen) ∷ slots) fresh =
+    fresh_next (p (Present kind wants seen)) (Present kind wants seen) (filter p slots) (fresh.0, fresh.1, tt) (fresh_kept p slots fresh.2)
+
+fresh_shipped : AreFresh shipped
+fresh_shipped = (refl, omega arith, (refl, omega arith, (refl, omega arith, tt)))
+
+fresh_asked : (asked : Option Job) → AreFresh (kept_by asked shipped)
+fresh_asked None = fresh_shipped
+fresh_asked (Some job) = fresh_kept (is_kept (kinds_of (watched_of job))) shipped fresh_shipped
+
+pub shipped_tell : (asked : Option Job) (new : List Slot) (c : Course) (line text : List ℕ) → AreTold (Some c) (kept_by asked shipped) new → IsReport (Some c) new line text
+    → text ≡ line ++ stories c (kept_by asked shipped)
+shipped_tell asked new c line text told report = watchers_tell (kept_by asked shipped) new c line text (fresh_asked asked) told report

@@ -1,5 +1,6 @@
 -- The answer that a source with its script, or words that are no job, must get.
-use Rattle.std.specs.Prelude.{ℕ, Bool, List, [], length, nat_lt, Option, Some, None, IfSome, IsSomeAnd, if◌then◌else◌, ◌++◌, codes}
+use Rattle.std.specs.Prelude.{ℕ, Bool, false, List, [], ◌∷◌, length, nat_lt, Option, Some, None, IfSome, IsSomeAnd, if◌then◌else◌, ◌++◌, codes, option_to_list}
+use Rattle.std.specs.Option.{option_map_or}
 use Rattle.pv_watch.specs.Slots.{Slot}
 use Rattle.pv_gen.specs.Source.{source_text}
 use Rattle.pv_eval.specs.States.{State}
@@ -45,6 +46,16 @@ pub record SomeVerdict (source script : List ℕ) (task : Task) (sides : Option 
 -- 5.2.4.1: of a source that is too long no script is needed
 abbrev pub script_needed : (source : List ℕ) → Option (List ℕ) → Option (List ℕ)
 script_needed source script = if nat_lt source_limit (length source) then Some [] else script
+
+-- 7.21.3p8: the files that a source and its script are read from; of a source that is known to be too long (5.2.4.1) no script is read
+abbrev pub files_read : (file : List ℕ) (script : Option (List ℕ)) (held : List ℕ → Option (List ℕ)) → List (List ℕ)
+files_read file script held =
+    file ∷ (if option_map_or (λ (source : List ℕ). nat_lt source_limit (length source)) (held file) false then [] else option_to_list script)
+
+-- docs/FORMATS.md, Words (5.1.2.2.1p2): the files that are read for a job
+abbrev pub files_of : Job → (held : List ℕ → Option (List ℕ)) → List (List ℕ)
+files_of (Files j) held = files_read j.file j.script held
+files_of (Generated n) held = []
 
 -- docs/FORMATS.md, Scripts of addresses (the memory model): the bytes of the script that a job names, where they are told; one that names none has none
 abbrev pub script_held : Option (List ℕ) → (held : List ℕ → Option (List ℕ)) → Option (List ℕ)

@@ -3,14 +3,15 @@
 -- has the rules.
 use Rattle.std.specs.Prelude.{◌≡◌, ◌⊎◌, ℕ, List, [], Option, IsSomeAnd}
 use Rattle.pv_watch.specs.Slots.{Slot}
+use Rattle.pv_watch.specs.Shipped.{shipped}
 use Rattle.pv_eval.specs.States.{State}
 use Rattle.pv_exec.specs.Outlets.{ToldPart}
-use Rattle.pv_serve.specs.Jobs.{Job, files_of}
+use Rattle.pv_serve.specs.Jobs.{Job}
 use Rattle.pv_serve.specs.Words.{job}
 use Rattle.pv_serve.specs.Outside.{AnyRose, Sunk, SinkRose, Wrote, WrotePrefix, Halls}
 use Rattle.pv_serve.specs.Owed.{Facts, Owed}
 use Rattle.pv_serve.specs.Watching.{kept_by}
-use Rattle.pv_serve.specs.Answer.{Answer, HasReport, SomeAnswer, SomeEnd, read_fault}
+use Rattle.pv_serve.specs.Answer.{Answer, HasReport, SomeAnswer, SomeEnd, files_of, read_fault}
 
 -- 5.1.2.3p7: one call: its words (5.1.2.2.1p2), what the files hold under each name (7.21.3p8) with the counts of reads that failed (7.21.8.1p3),
 -- the two sinks, those who watch, and the status (7.22.4.4p5)
@@ -51,12 +52,12 @@ pub record WroteNoReport (c : Call) : Type 0 where
   pub out : Wrote c.out [] ⊎ SomeEnd (job c.words) c.held (λ end names. WrotePrefix c.out end.output)
   pub report : Wrote c.report []
 
--- 5.1.2.3p7: what is so of a call. A read that failed (7.21.8.1p3) is one of a file that the job names. Where a write failed, that of the report began
+-- 5.1.2.3p7: what is so of a call. A read that failed (7.21.8.1p3) is one of a file that is read for the job. Where a write failed, that of the report began
 -- an answer, and that of the output cut off a run.
 abbrev pub facts_of : Call → Facts Job
 facts_of c = record {
   job = job c.words;
-  ReadFailed = IsSomeAnd (job c.words) (λ j. AnyRose (files_of j) c.faults_old c.faults_new);
+  ReadFailed = IsSomeAnd (job c.words) (λ j. AnyRose (files_of j c.held) c.faults_old c.faults_new);
   WriteFailed = SinkRose c.out ⊎ SinkRose c.report;
   ReportFailed = SinkRose c.report;
   Answered = SomeAnswer (job c.words) c.held (IsAnswer c);
@@ -70,3 +71,18 @@ facts_of c = record {
 -- 5.1.2.3p7: all that a call owes to its outside
 abbrev pub Served : Call → Type 0
 Served c = Owed (facts_of c) c.status
+
+-- docs/FORMATS.md, What watchers say (the memory model): a call before the three watchers of the program, who have seen nothing, whatever they have seen
+-- at its end
+abbrev pub ServedShipped : (words : List (List ℕ)) (held : List ℕ → Option (List ℕ)) (faults_old faults_new : List ℕ → ℕ) (out report : Sunk) (status : ℕ) → Type 0
+ServedShipped words held faults_old faults_new out report status =
+    (new : List Slot) × Served (record {
+      words = words;
+      held = held;
+      faults_old = faults_old;
+      faults_new = faults_new;
+      out = out;
+      report = report;
+      hall = record { old = shipped; new = new };
+      status = status;
+    })

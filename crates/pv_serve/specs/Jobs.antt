@@ -1,5 +1,5 @@
 -- What may be asked of the program. What a program's parameters (5.1.2.2.1p2) mean is its own: docs/FORMATS.md has the rules.
-use Rattle.std.specs.Prelude.{ℕ, Bool, List, [], ◌∷◌, ◌++◌, Option, None, if◌then◌else◌, true, false, option_to_list}
+use Rattle.std.specs.Prelude.{ℕ, Bool, List, [], ◌∷◌, ◌++◌, Option, None, if◌then◌else◌, true, false}
 use Rattle.pv_serve.specs.declared.words.Task.{Task}
 use Rattle.pv_serve.specs.declared.words.Task.TheVariants as task
 use Rattle.pv_serve.specs.declared.words.Watched.{Watched}
@@ -17,11 +17,6 @@ pub record FileJob : Type 0 where
 pub data Job : Type 0 where
   Files : (job : FileJob) → Job
   Generated : (number : ℕ) → Job
-
--- docs/FORMATS.md, Words (5.1.2.2.1p2): the names of the files that a job reads: the source's, and the script's, if there is one
-abbrev pub files_of : Job → List (List ℕ)
-files_of (Files j) = j.file ∷ option_to_list j.script
-files_of (Generated n) = []
 
 -- docs/FORMATS.md, Words (5.1.2.2.1p2): as many turns has a run whose words do not say how many, and that of a generated source
 abbrev pub default_turns : ℕ

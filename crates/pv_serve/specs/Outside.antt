@@ -6,7 +6,7 @@ use Rattle.pv_watch.specs.declared.event.Event.{Event}
 use Rattle.pv_watch.specs.declared.hall.Hall.{Hall}
 use Rattle.pv_watch.specs.Seen.{Kind}
 use Rattle.pv_watch.specs.Slots.{Slot}
-use Rattle.pv_exec.specs.Outlets.{hall_slots}
+use Rattle.pv_watch.specs.Halls.{hall_slots}
 
 -- 7.21.8.1p3: a read of one of these files failed
 abbrev pub AnyRose : (names : List (List ℕ)) → (old new : List ℕ → ℕ) → Type 0

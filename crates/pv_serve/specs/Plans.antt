@@ -1,5 +1,5 @@
 -- A bridge: what functions answer that do a part of what Judged says.
-use Rattle.std.specs.Prelude.{false, ℕ, Bool, None, true, Option, List, ◌∷◌, option_to_list}
+use Rattle.std.specs.Prelude.{false, ℕ, Bool, None, true, Option, List}
 use Rattle.pv_serve.specs.Judged.{Plan}
 
 -- a run that is watched, and whose pairs are settled late (the memory model)
@@ -9,7 +9,3 @@ late_plan bound zap = record { bound = bound; zap = zap; sides = None; settles =
 -- the memory model: a settled run: by these sides, or late where none are given
 abbrev pub settled_plan : (bound : ℕ) (zap : Bool) (sides : Option (List Bool)) → Plan
 settled_plan bound zap sides = record { bound = bound; zap = zap; sides = sides; settles = true }
-
--- docs/FORMATS.md, Words: the name of a source's file, and that of its script's, if there is one
-abbrev pub files_named : (file : List ℕ) (script : Option (List ℕ)) → List (List ℕ)
-files_named file script = file ∷ option_to_list script

@@ -5,7 +5,6 @@ use Rattle.pv_gen.specs.Source.{source_text}
 use Rattle.pv_serve.specs.declared.words.Task.{Task}
 use Rattle.pv_serve.specs.declared.judging.Judgement.{Judgement}
 use Rattle.pv_serve.specs.Jobs.{Job, FileJob, Files, Generated}
-use Rattle.pv_serve.specs.Plans.{files_named}
 use Rattle.pv_serve.specs.Verdicts.{course_of}
 use Rattle.pv_serve.specs.VerdictParts.{BeganOutput}
 use Rattle.pv_serve.specs.Comes.{source_limit}
@@ -16,7 +15,7 @@ use Rattle.pv_serve.specs.Replies.{read_fault}
 use Rattle.pv_serve.specs.Replying.{IsHanded}
 use Rattle.pv_serve.specs.Report.{status_of, report_line}
 use Rattle.pv_serve.specs.Watching.{IsReport, kept_by}
-use Rattle.pv_serve.specs.Answer.{Answer, HasReport, OfFiles, SomeVerdict}
+use Rattle.pv_serve.specs.Answer.{Answer, HasReport, OfFiles, SomeVerdict, files_read}
 use Rattle.pv_serve.specs.Causes.{WroteReport, WroteOutput}
 
 -- docs/FORMATS.md, What watchers say (the memory model): the hall once those whom the job keeps are kept, and as the call leaves it
@@ -78,6 +77,6 @@ pub record Answered (source script : List ℕ) (t : Task) (sides : Option (List 
 pub data FilesServed (job : FileJob) (held : List ℕ → Option (List ℕ)) (faults_old faults_new : List ℕ → ℕ) (out report : Sunk) (hall : Halls) (status : ℕ) : Type 0 where
   WereRead : (source script : List ℕ) → AreRead job.file job.script held source script → Answered source script job.task job.sides out report hall status
       → FilesServed job held faults_old faults_new out report hall status
-  WereLost : AnyRose (files_named job.file job.script) faults_old faults_new → out.new ≡ out.old → hall.new ≡ hall.old → IsHanded report status read_fault
+  WereLost : AnyRose (files_read job.file job.script held) faults_old faults_new → out.new ≡ out.old → hall.new ≡ hall.old → IsHanded report status read_fault
       → FilesServed job held faults_old faults_new out report hall status
   HadNoRoom : status ≡ 13 → out.new ≡ out.old → report.new ≡ report.old → FilesServed job held faults_old faults_new out report hall status

@@ -1,6 +1,7 @@
 -- What those who watch are told in a call of the program, and what they say behind the first line of its report.
 use Rattle.std.specs.Prelude.{◌≡◌, ◌<◌, ℕ, List, [], ◌∷◌, ◌++◌, take, Option, Some, None}
 use Rattle.std.specs.List.{filter, flat_map}
+use Rattle.pv_watch.specs.Kinds.{kind_meant}
 use Rattle.pv_watch.specs.Slots.{Slot, Present, Left, Told, SayAll, is_kept}
 use Rattle.pv_serve.specs.Jobs.{Job, kinds_of, watched_of}
 use Rattle.pv_serve.specs.Verdicts.{Course}
@@ -30,7 +31,7 @@ AreFresh ((Present kind wants seen) ∷ slots) = (seen ≡ []) × (0 < wants) ×
 
 -- docs/FORMATS.md, What watchers say (the memory model): the text of a watcher's kind over the first events, as many as it wants, or all where there are fewer
 abbrev pub story_of : Course → Slot → List ℕ
-story_of c (Present kind wants seen) = kind.text wants (take wants c.events) c.names
+story_of c (Present kind wants seen) = (kind_meant kind).text wants (take wants c.events) c.names
 story_of c (Left number text) = text
 
 -- docs/FORMATS.md, What watchers say (the memory model): the texts of all in the order of the hall

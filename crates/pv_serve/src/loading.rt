@@ -14,7 +14,7 @@ use std::alloc::Global;
 
 /// A program with its script, or why there is none.
 #[derive(Drop)]
-pub(crate) enum Loaded {
+pub enum Loaded {
     /// A unit that has a typing, and the lines of the script.
     Program { unit: TypedUnit, lines: Script },
     /// The source is refused.
@@ -26,7 +26,7 @@ pub(crate) enum Loaded {
 /// Reads a source and its script of addresses.
 ///
 /// A source that is too long is refused before its script is read, the script before the source is.
-pub(crate) fn load(alloc: Global, source: &[u8], script: &[u8]) -> Result<Loaded, NoMemory>
+pub fn load(alloc: Global, source: &[u8], script: &[u8]) -> Result<Loaded, NoMemory>
     ensures { IfOk result (IsLoaded source.now script.now) }
 {
     if source.len() > SOURCE_LIMIT {

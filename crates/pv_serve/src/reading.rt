@@ -1,8 +1,7 @@
 //! Reading the files that a job names: its source, and its script of addresses.
 ghost use Rattle.std.specs.Prelude.{◌≡◌, ℕ, ◌+◌, ◌≤◌, List, take, IfOk, IfSome, IsErrOf, option_map, option_to_list};
-ghost use Rattle.pv_serve.specs.Plans.{files_named};
 ghost use Rattle.pv_serve.specs.Judged.{script_limit};
-ghost use Rattle.pv_serve.specs.Answer.{script_held};
+ghost use Rattle.pv_serve.specs.Answer.{files_read, script_held};
 ghost use Rattle.pv_serve.specs.Outside.{AnyRose};
 ghost use Rattle.pv_serve.specs.Serving.{AreRead};
 ghost use Rattle.pv_script.specs.Outside.{HoldTheSame};
@@ -23,7 +22,7 @@ pub struct JobText {
 
 /// Reads the source in a file, and then its script, if a file is named for it; where none is, the script has no bytes.
 ///
-/// The script of a source that is too long is not read. A fault is that of one of the files that are named.
+/// The script of a source that is too long is not read. A fault is that of one of the files that are read.
 pub fn read_job<F: Files>(
     alloc: Global,
     files: &mut F,
@@ -35,7 +34,7 @@ pub fn read_job<F: Files>(
     ensures same { HoldTheSame F.held files.old files.new }
     ensures later { (n : List ℕ) → F.faults files.old n ≤ F.faults files.new n }
     ensures cause { IsErrOf result ReadError.Fault →
-        AnyRose (files_named source.now (option_map (λ s. s.now) script.entry)) (F.faults files.old) (F.faults files.new) }
+        AnyRose (files_read source.now (option_map (λ s. s.now) script.entry) (F.held files.old)) (F.faults files.old) (F.faults files.new) }
 {
     let bytes = match read_all(alloc, files, source, SOURCE_LIMIT) {
         Ok(bytes) => bytes,

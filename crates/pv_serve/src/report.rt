@@ -69,8 +69,8 @@ pub fn line(alloc: Global, judgement: &Judgement) -> Result<Vec<u8>, NoMemory>
     }
 }
 
-// The line of a run.
-fn run_line(alloc: Global, ran: &Ran, names: &Names, bound: u64) -> Result<Vec<u8>, NoMemory>
+/// The line of a run that ended. The only error is want of memory.
+pub fn run_line(alloc: Global, ran: &Ran, names: &Names, bound: u64) -> Result<Vec<u8>, NoMemory>
     ensures { IfOk result (λ v. v.items ≡ specified.outcome_line ran.now.outcome names.now ran.now.turns bound) }
 {
     let turns = ran.turns;

@@ -4,7 +4,7 @@ ghost use Rattle.std.specs.List.{filter};
 ghost use Rattle.pv_watch.specs.Slots.{is_kept};
 ghost use Rattle.pv_gen.specs.Source.{source_text};
 ghost use Rattle.pv_exec.specs.Answering.{highs};
-ghost use Rattle.pv_exec.specs.Outlets.{hall_slots};
+ghost use Rattle.pv_watch.specs.Halls.{hall_slots};
 ghost use Rattle.pv_serve.specs.Jobs.{Generated, kinds_of, default_turns};
 ghost use Rattle.pv_serve.specs.ReadWords.{IsTask, asked_job};
 ghost use Rattle.pv_serve.specs.Words.{texts, file_job as file_job_of, job as job_of};

@@ -8,7 +8,7 @@ use pv_exec::Side;
 use std::alloc::Global;
 
 /// The sides that a word says: none where it is `-`, else one for each letter. The only error is want of memory.
-pub(crate) fn sides_in(alloc: Global, word: &str) -> Result<Vec<Side>, NoMemory>
+pub fn sides_in(alloc: Global, word: &str) -> Result<Vec<Side>, NoMemory>
     ensures { IfOk result (λ v. map is_high v.items ≡ specified.sides_in word.now) }
 {
     if word == "-" {

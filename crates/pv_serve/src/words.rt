@@ -101,14 +101,14 @@ pub enum Mode {
     Settle,
 }
 
-// What the options say, as far as they are read.
+/// What the options say, as far as they are read.
 #[derive(Clone, Copy)]
-struct Options<'a> {
-    script: Option<&'a str>,
-    turns: Option<u64>,
-    zap: Option<bool>,
-    sides: Option<&'a str>,
-    watched: Watched,
+pub struct Options<'a> {
+    pub script: Option<&'a str>,
+    pub turns: Option<u64>,
+    pub zap: Option<bool>,
+    pub sides: Option<&'a str>,
+    pub watched: Watched,
 }
 
 /// The number of the generated source that is to be run, where the words are `gen N`.
@@ -207,8 +207,8 @@ fn settle_of<'a>(file: &'a str, rest: &'a [String]) -> Option<Asked<'a>>
     })
 }
 
-// No option was read yet.
-fn no_options<'a>() -> Options<'a>
+/// No option was read yet.
+pub fn no_options<'a>() -> Options<'a>
     ensures said { read_words.options_read result ≡ specified.no_options }
     ensures turns { AreBounded result.turns }
 {
@@ -256,8 +256,8 @@ fn all_options<'a>(mode: Mode, given: Options<'a>, words: &'a [String]) -> Optio
     }
 }
 
-// One option more.
-fn with_option<'a>(
+/// One option more, if it is one of the mode's and was not read yet.
+pub fn with_option<'a>(
     mode: Mode,
     given: Options<'a>,
     name: &str,

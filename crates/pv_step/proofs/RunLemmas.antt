@@ -8,8 +8,8 @@ use Rattle.pv_watch.specs.Lines.{event_lines, what_text}
 use Rattle.pv_watch.specs.LineParts.{event_line}
 use Rattle.pv_watch.specs.Texts.{journal_text}
 use Rattle.pv_watch.specs.TextParts.{last_line}
-use Rattle.pv_watch.specs.Slots.{Present, Told, SayAll}
-use Rattle.pv_explain.specs.Texts.{journal_kind}
+use Rattle.pv_watch.specs.Slots.{Slot, Present, Told, SayAll}
+use Rattle.pv_watch.specs.Kinds.{journal_kind}
 use Rattle.pv_script.specs.Lines.{ScriptLine}
 use Rattle.pv_typed.specs.Known.{Each}
 use Rattle.pv_typed.specs.Tables.{whole_unit}
@@ -120,6 +120,10 @@ run_shown source script cs out hall ran names most journal line a first is says 
         shown.2 ∙ ap (λ (l : List ℕ). record { status = 0; text = report_of (run_of ran.turns ran.outcome l shown.0) cs }) (told j.shown),
       );
     }
+
+-- what watchers say of what they have heard
+pub heard_so : (names : List (List ℕ)) (text : List ℕ) {told heard : List Slot} → told ≡ heard → SayAll names heard text → SayAll names told text
+heard_so names text same says = subst (λ (s : List Slot). SayAll names s text) (sym same) says
 
 -- what is shown of the run that was made
 pub ran_shown : (source script : List ℕ) (cs : List Command) (out : Sunk) (hall : Halls) (j : Judgement) (ran : Ran) (names : List (List ℕ)) (most : ℕ) (text told journal line : List ℕ) (r : Result code.Reply AllocError)

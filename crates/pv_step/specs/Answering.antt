@@ -1,9 +1,13 @@
 -- A bridge: what the parts of the top call come to.
-use Rattle.std.specs.Prelude.{◌≡◌, ℕ, ◌+◌, List, take, Option}
+use Rattle.std.specs.Prelude.{◌≡◌, ◌∷◌, [], ℕ, ◌+◌, List, true, take, Option, None}
+use Rattle.pv_watch.specs.Slots.{Slot, Present}
+use Rattle.pv_watch.specs.Kinds.{journal_kind}
+use Rattle.pv_serve.specs.declared.judging.Judgement.{Judgement}
 use Rattle.pv_serve.specs.Comes.{source_limit}
 use Rattle.pv_serve.specs.Judged.{script_limit}
-use Rattle.pv_serve.specs.Outside.{AnyRose, Sunk}
+use Rattle.pv_serve.specs.Outside.{AnyRose, Sunk, Halls}
 use Rattle.pv_serve.specs.Replying.{JobReplied}
+use Rattle.pv_serve.specs.Settling.{IsOutcome}
 use Rattle.pv_shown.specs.Commands.{commands_limit}
 use Rattle.pv_step.specs.declared.reading.StepText.{StepText}
 use Rattle.pv_step.specs.Words.{StepJob, files_of}
@@ -13,6 +17,11 @@ use Rattle.pv_step.specs.Answers.{OfFiles, IsStepped, IsReply}
 abbrev pub AreRead : StepJob → (held : List ℕ → Option (List ℕ)) → (source script commands : List ℕ) → Type 0
 AreRead j held source script commands = OfFiles j held (λ all rest lines.
     (source ≡ take (source_limit + 1) all) × (script ≡ take (script_limit + 1) rest) × (commands ≡ take (commands_limit + 1) lines))
+
+-- 5.1.2.3: a source with its script came to this before a watcher that hears all, which has heard this since
+abbrev pub IsJudged : (source script : List ℕ) → (heard : List Slot) → Judgement → Type 0
+IsJudged source script heard j = (out : Sunk) × (told : Halls) × (told.old ≡ Present journal_kind 18446744073709551615 [] ∷ []) × (told.new ≡ heard)
+    × IsOutcome source script 1000000 true None out told j
 
 -- docs/FORMATS.md, Commands: what came of what was read: it got a reply, or there was no memory
 abbrev pub TextServed : StepText → (report : Sunk) (status : ℕ) → Type 0

@@ -3,8 +3,8 @@ ghost use Rattle.std.specs.Prelude.{◌≡◌, ◌⊎◌, ◌∷◌, [], Some, I
 ghost use Rattle.pv_script.specs.Calm.{calm_held, calm_written};
 ghost use Rattle.pv_script.specs.Outside.{HoldTheSame};
 ghost use Rattle.pv_watch.specs.Slots.{Present};
-ghost use Rattle.pv_explain.specs.Texts.{journal_kind};
-ghost use Rattle.pv_exec.specs.Outlets.{hall_slots};
+ghost use Rattle.pv_watch.specs.Kinds.{journal_kind};
+ghost use Rattle.pv_watch.specs.Halls.{hall_slots};
 ghost use Rattle.pv_serve.specs.Words.{texts};
 ghost use Rattle.pv_serve.specs.Outside.{sink_change};
 ghost use Rattle.pv_serve.specs.Replies.{ReplyCall, Replied, SomeReply, IsReplied};

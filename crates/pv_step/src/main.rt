@@ -3,6 +3,12 @@
 //! `main` makes the real files, the real output and the watcher that keeps a journal, and calls [`step`], which does all the rest.
 #![tactic(auto)]
 
+ghost use Rattle.std.specs.Prelude.{IfOk};
+ghost use Rattle.pv_serve.specs.Words.{texts};
+ghost use Rattle.pv_serve.specs.Outside.{sink_change};
+ghost use Rattle.pv_serve.specs.Replies.{ReplyCall, Replied};
+ghost use Rattle.pv_step.specs.Answers.{service};
+
 mod calling;
 mod positions;
 mod reading;
@@ -45,7 +51,16 @@ fn watched<F: pv_script::Files, R: Sink>(
     words: &[String],
     files: &mut F,
     report: &mut R,
-) -> Result<u8, NoMemory> {
+) -> Result<u8, NoMemory>
+    ensures { IfOk result (λ status. let call : ReplyCall = record {
+      words = texts words.now;
+      held = F.held files.old;
+      faults_old = F.faults files.old;
+      faults_new = F.faults files.new;
+      report = sink_change R.written R.faults report.old report.new;
+      status = status;
+    } in Replied service call) }
+{
     let mut watchers: Vec<Box<dyn Watch>> = Vec::new(alloc);
     watchers.push(Box::new(alloc, Journal::new(alloc, WANTS))?)?;
     let mut hall = Hall::new(alloc, watchers)?;

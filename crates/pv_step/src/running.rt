@@ -1,14 +1,15 @@
 //! What commands show of a source's run.
 ghost use Rattle.std.specs.Prelude.{◌≡◌, ◌<◌, ◌∷◌, ◌^◌, [], length, List, IfOk, OnOk};
 ghost use Rattle.pv_watch.specs.Slots.{Present};
-ghost use Rattle.pv_explain.specs.Texts.{journal_kind};
-ghost use Rattle.pv_exec.specs.Outlets.{hall_slots};
+ghost use Rattle.pv_watch.specs.Kinds.{journal_kind};
+ghost use Rattle.pv_watch.specs.Halls.{hall_slots};
 ghost use Rattle.pv_serve.specs.Replying.{reply_view, IsOwn};
 ghost use Rattle.pv_journal.specs.Journals.{Row};
 ghost use Rattle.pv_journal.specs.Obeying.{IsJournal};
 ghost use Rattle.pv_shown.specs.Shown.{report_of};
 ghost use Rattle.pv_step.specs.Answers as specified;
 ghost use Rattle.pv_step.specs.Answers.{IsStepped, IsLookedAt, run_of, refused_by};
+ghost use Rattle.pv_step.specs.Answering.{IsJudged};
 
 use crate::reading::StepText;
 use pv_exec::{Outcome, Ran};
@@ -80,8 +81,24 @@ fn look(
     let Ok(judgement) = judge(alloc, source, script, TURNS, true, None, &mut output, hall) else {
         return Err(NoMemory);
     };
-    let told = line(alloc, &judgement)?;
-    match &judgement {
+    look_at(alloc, text, &judgement, hall, commands)
+}
+
+// Shows what commands ask for of a run that was made before the watcher in the hall, or tells the refusal. A judgement is let go in one place, by its
+// caller, since it has the world of a run: at each way out of a function that owns one all its tables go.
+fn look_at(
+    alloc: Global,
+    text: &StepText,
+    judgement: &Judgement,
+    hall: &Hall,
+    commands: &[Command],
+) -> Result<Reply, NoMemory>
+    requires { IsJudged text.now.source.items text.now.script.items (hall_slots hall.now its_kind its_wants seen) judgement.now }
+    ensures looked { IfOk result (λ a. IsLookedAt text.now.source.items text.now.script.items commands.now (reply_view a)) }
+    ensures own { IfOk result (λ a. IsOwn a.status) }
+{
+    let told = line(alloc, judgement)?;
+    match judgement {
         Judgement::Ran { ran, names, .. } => {
             let text = hall.texts(names)?;
             let journal = text.as_slice();
@@ -90,7 +107,7 @@ fn look(
             show(alloc, ran, journal, line, commands)
         }
         _ => Ok(Reply {
-            status: status(&judgement),
+            status: status(judgement),
             text: told,
         }),
     }

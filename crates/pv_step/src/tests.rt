@@ -16,6 +16,9 @@ struct Devices {
     write: u64,
 }
 
+// No call fails.
+const SOUND: Devices = Devices { read: 0, write: 0 };
+
 // What is told: the status, and all that was written.
 fn text(alloc: Global, status: u8, report: &[u8]) -> Result<String, NoMemory> {
     let report = str::from_utf8(report).unwrap_or("no text");
@@ -124,4 +127,31 @@ fn each_calm_row_is_told(rt: HostRuntime) {
             expect(&rt, row, told.as_str(), wanted.as_str());
         }
     }
+}
+
+// The longest file of commands, and a longer one.
+#[test]
+fn a_longer_file_of_commands_is_refused(rt: HostRuntime) {
+    let alloc = rt.alloc();
+    let lists = "list\n".repeat(alloc, 13_106).expect(&rt, "no memory");
+    let longest = format!(in alloc; "{lists}pairs\n").expect(&rt, "no memory");
+    let shown = "live count=0\n"
+        .repeat(alloc, 13_106)
+        .expect(&rt, "no memory");
+    let wanted = format!(in alloc; "0\n{shown}pairs count=0\n").expect(&rt, "no memory");
+    let told_longest = told(&rt, alloc, "a.c c", longest.as_str(), SOUND);
+    expect(
+        &rt,
+        "the longest file of commands",
+        told_longest.as_str(),
+        wanted.as_str(),
+    );
+    let longer = format!(in alloc; "{longest}p").expect(&rt, "no memory");
+    let told_longer = told(&rt, alloc, "a.c c", longer.as_str(), SOUND);
+    expect(
+        &rt,
+        "a longer file of commands",
+        told_longer.as_str(),
+        "19\ncommand reason=size\n",
+    );
 }

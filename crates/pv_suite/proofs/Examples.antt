@@ -1,5 +1,5 @@
 -- Rows of lists and their cases, as the definitions compute them.
-use Rattle.std.proofs.Common.{◌≡◌, ℕ, true, false, List, [], ◌∷◌, codes, refl}
+use Rattle.std.proofs.Common.{◌≡◌, ℕ, Bool, true, false, List, [], ◌∷◌, codes, refl, ap}
 use Rattle.std.specs.Prelude.{Option, Some, None, Ok, Err, if◌then◌else◌}
 use Rattle.std.specs.Str.{bytes_eq}
 use Rattle.pv_fault.specs.declared.faults.Fault.{Fault}
@@ -13,14 +13,14 @@ use Rattle.pv_serve.specs.ReportParts.{words_line}
 use Rattle.pv_suite.specs.Words.{list_of}
 use Rattle.pv_serve.specs.Replies.{no_job}
 use Rattle.pv_suite.specs.Answers.{Given, given_of, is_long, broken_by, Came, LongOutput, TooLong, CasesCome, refused_by, reply_of}
-use Rattle.pv_suite.specs.Causes.{list_files}
+use Rattle.pv_suite.specs.Causes.{run_files, list_files}
 
 -- ---- words (worked: list_of)
 
 words : (list_of (codes "l" ∷ []) ≡ Some (codes "l")) × (list_of [] ≡ None) × (list_of ([] ∷ []) ≡ None) × (list_of (codes "l" ∷ codes "l" ∷ []) ≡ None)
 words = (refl, refl, refl, refl)
 
--- ---- the files of a case (worked: given_of, list_files)
+-- ---- the files of a case (worked: given_of, run_files, list_files)
 
 -- files `a.c`, `s` and `o`, with these bytes in the last one
 abbrev held : (output name : List ℕ) → Option (List ℕ)
@@ -38,9 +38,14 @@ files : (given_of (a_case (codes "a.c") (Some (codes "s")) (Some (codes "o"))) (
     × (given_of (a_case (codes "-") None None) (held []) ≡ None)
 files = (refl, refl, refl, refl)
 
-listed : (list_files (cases_of (codes "a.c s - 9 x\n#\nb.c - o 9 y")) ≡ codes "a.c" ∷ codes "s" ∷ codes "b.c" ∷ codes "o" ∷ [])
-    × (list_files (cases_of (codes "a.c s")) ≡ [])
+listed : (list_files (λ n. None) (cases_of (codes "a.c s - 9 x\n#\nb.c - o 9 y")) ≡ codes "a.c" ∷ codes "s" ∷ codes "b.c" ∷ codes "o" ∷ [])
+    × (list_files (λ n. None) (cases_of (codes "a.c s")) ≡ [])
 listed = (refl, refl)
+
+-- of the files behind a case whose output is too long no read may fail
+refused_first : (output : List ℕ) → is_long (Some output) ≡ true
+    → run_files (held output) (a_case (codes "a.c") None (Some (codes "o")) ∷ a_case (codes "b.c") None None ∷ []) ≡ codes "a.c" ∷ codes "o" ∷ []
+refused_first output long = ap (λ (b : Bool). codes "a.c" ∷ codes "o" ∷ (if b then [] else codes "b.c" ∷ [])) long
 
 -- ---- what all cases come to (worked: CasesCome, reply_of)
 

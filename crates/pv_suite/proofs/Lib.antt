@@ -5,3 +5,4 @@ pub mod CaseLemmas
 pub mod WalkLemmas
 pub mod ListLemmas
 pub mod CauseLemmas
+pub mod ClauseLemmas

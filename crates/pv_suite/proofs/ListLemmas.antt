@@ -1,7 +1,7 @@
 -- From what was read of a list to what its file holds.
 use Rattle.std.proofs.Common.{◌≡◌, inl, inr, ℕ, ◌<◌, ◌≤◌, List, [], take, length, Bool, cond, true, false, refl, sym, ap, ◌∙◌, subst, arith}
 use Rattle.std.specs.Prelude.{Option, Some, None, IfSome, Result, Ok, Err, IfOk, ◌==◌, if◌then◌else◌}
-use Rattle.std.specs.List.{slice_split, flat_map}
+use Rattle.std.specs.List.{slice_split}
 use Rattle.std.proofs.lemmas.Bool.{lt-ltb, cases_lt}
 use Rattle.std.proofs.lemmas.List.{length-take, take_all}
 use Rattle.pv_serve.specs.Outside.{AnyRose, Sunk}
@@ -14,7 +14,7 @@ use Rattle.pv_cases.specs.Cases.{SuiteCase, cases_of, after_lines}
 use Rattle.pv_cases.specs.Suites.{CaseTold, all_passed, suite_status}
 use Rattle.pv_cases.specs.Views.{OrNoMemory}
 use Rattle.pv_suite.specs.Answers.{Came, AllTold, LongOutput, IsListReply, IsReply, refused_by, reply_of}
-use Rattle.pv_suite.specs.Causes.{case_files, list_files, CaseRose, ListRose}
+use Rattle.pv_suite.specs.Causes.{run_files, list_files, CaseRose, ListRose}
 use Rattle.pv_suite.specs.Answering.{ReadServed, ListServed}
 use Rattle.pv_suite.proofs.RoseLemmas.{any_within}
 use Rattle.pv_suite.proofs.WalkLemmas.{same_held}
@@ -36,20 +36,21 @@ answered (Some all) list old mid reply same read is =
     subst (λ (r : Result (List SuiteCase) ListError). IsListReply r old reply) (ap cases_of read ∙ list_cut all)
     (subst (λ (h : List ℕ → Option (List ℕ)). IsListReply (cases_of list) h reply) same is)
 
-rose : (name : Option (List ℕ)) (list : List ℕ) (old mid new : List ℕ → ℕ) → ((n : List ℕ) → old n ≤ mid n) → IfSome name (λ all. list ≡ take 65537 all)
-    → AnyRose (list_files (cases_of list)) mid new → CaseRose name old new
-rose None list old mid new later read any = let a = any_within (list_files (cases_of list)) old mid new new later (λ n. omega arith) any in (a.1, a.4)
-rose (Some all) list old mid new later read any =
-    subst (λ (r : Result (List SuiteCase) ListError). AnyRose (list_files r) old new) (ap cases_of read ∙ list_cut all)
-    (any_within (list_files (cases_of list)) old mid new new later (λ n. omega arith) any)
+rose : (name : Option (List ℕ)) (list : List ℕ) (held : List ℕ → Option (List ℕ)) (old mid new : List ℕ → ℕ) → ((n : List ℕ) → old n ≤ mid n) → IfSome name (λ all. list ≡ take 65537 all)
+    → AnyRose (list_files held (cases_of list)) mid new → CaseRose name held old new
+rose None list held old mid new later read any = let a = any_within (list_files held (cases_of list)) old mid new new later (λ n. omega arith) any in (a.1, a.4)
+rose (Some all) list held old mid new later read any =
+    subst (λ (r : Result (List SuiteCase) ListError). AnyRose (list_files held r) old new) (ap cases_of read ∙ list_cut all)
+    (any_within (list_files held (cases_of list)) old mid new new later (λ n. omega arith) any)
 
 -- what came of the list that was read came of the one in the file
 pub list_served : (name list : List ℕ) (old mid : List ℕ → Option (List ℕ)) (faults_old faults_mid faults_new : List ℕ → ℕ) (report : Sunk) (status : ℕ)
     → ((n : List ℕ) → mid n ≡ old n) → ((n : List ℕ) → faults_old n ≤ faults_mid n) → IfSome (old name) (λ all. list ≡ take 65537 all)
     → ReadServed list mid faults_mid faults_new report status → ListServed name old faults_old faults_new report status
 list_served name list old mid fo fm fn report status same later read served =
-    more_replied (IsListReply (cases_of list) mid) (IsReply name old) (AnyRose (list_files (cases_of list)) fm fn) (ListRose name old fo fn) report status
-    (λ reply is. answered (old name) list old mid reply (same_held old mid same) read is) (λ any. inr (rose (old name) list fo fm fn later read any)) served
+    more_replied (IsListReply (cases_of list) mid) (IsReply name old) (AnyRose (list_files mid (cases_of list)) fm fn) (ListRose name old fo fn) report status
+    (λ reply is. answered (old name) list old mid reply (same_held old mid same) read is)
+    (λ any. inr (rose (old name) list old fo fm fn later read (subst (λ (held : List ℕ → Option (List ℕ)). AnyRose (list_files held (cases_of list)) fm fn) (same_held old mid same) any))) served
 
 -- ---- for the code that answers a list
 
@@ -58,8 +59,9 @@ pub by_reading : {A E : Type 0} (view : A → Reply) (w x : Result (List SuiteCa
     → IfOk r (λ a. IsListReply x held (view a)) → IfOk r (λ a. IsListReply w held (view a))
 by_reading view w x held r is told = subst (λ (y : Result (List SuiteCase) ListError). IfOk r (λ a. IsListReply y held (view a))) is told
 
-pub cases_rose : (w : Result (List SuiteCase) ListError) (cs : List SuiteCase) (old new : List ℕ → ℕ) → Ok cs ≡ w → AnyRose (flat_map case_files cs) old new → AnyRose (list_files w) old new
-cases_rose w cs old new is any = subst (λ (x : Result (List SuiteCase) ListError). AnyRose (list_files x) old new) is any
+pub cases_rose : (w : Result (List SuiteCase) ListError) (cs : List SuiteCase) (held : List ℕ → Option (List ℕ)) (old new : List ℕ → ℕ) → Ok cs ≡ w → AnyRose (run_files held cs) old new
+    → AnyRose (list_files held w) old new
+cases_rose w cs held old new is any = subst (λ (x : Result (List SuiteCase) ListError). AnyRose (list_files held x) old new) is any
 
 none_told : {A E : Type 0} (P : A → Type 0) (r : Result A E) (x : E) → r ≡ Err x → IfOk r P
 none_told P (Err y) x is = tt

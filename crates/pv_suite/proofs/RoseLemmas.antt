@@ -1,7 +1,6 @@
 -- Which files' counts of faults rose.
-use Rattle.std.proofs.Common.{◌≡◌, ℕ, zero, suc, ◌<◌, ◌≤◌, List, [], ◌∷◌, ◌++◌, length, get_or, refl, sym, ap, ◌∙◌, subst, arith}
-use Rattle.std.specs.Prelude.{Option, Some, Any, Result, Err, option_map, option_to_list}
-use Rattle.std.specs.List.{flat_map}
+use Rattle.std.proofs.Common.{◌≡◌, ℕ, suc, ◌≤◌, List, [], ◌∷◌, ◌++◌, ap, ◌∙◌, arith}
+use Rattle.std.specs.Prelude.{Any, Result, Err, option_to_list}
 use Rattle.std.proofs.lemmas.List.{length-append, get_or_append_left}
 use Rattle.pv_script.specs.Outside.{Rose}
 use Rattle.pv_serve.specs.Outside.{AnyRose}
@@ -16,17 +15,12 @@ any_later P x xs a = (suc a.0, a.1, omega (arith, a.2), a.3, a.4)
 any_map : (P Q : List ℕ → Type 0) (xs : List (List ℕ)) → ((x : List ℕ) → P x → Q x) → Any P xs → Any Q xs
 any_map P Q xs f a = (a.0, a.1, a.2, a.3, f a.1 a.4)
 
-any_left : (P : List ℕ → Type 0) (xs ys : List (List ℕ)) → Any P xs → Any P (xs ++ ys)
+pub any_left : (P : List ℕ → Type 0) (xs ys : List (List ℕ)) → Any P xs → Any P (xs ++ ys)
 any_left P xs ys a = (a.0, a.1, omega (arith, a.2, length-append xs ys), get_or_append_left xs ys a.1 a.0 a.2 ∙ a.3, a.4)
 
-any_right : (P : List ℕ → Type 0) (xs ys : List (List ℕ)) → Any P ys → Any P (xs ++ ys)
+pub any_right : (P : List ℕ → Type 0) (xs ys : List (List ℕ)) → Any P ys → Any P (xs ++ ys)
 any_right P [] ys a = a
 any_right P (x ∷ xs) ys a = any_later P x (xs ++ ys) (any_right P xs ys a)
-
-any_flat : (P : List ℕ → Type 0) (cs : List SuiteCase) (i : ℕ) (d : SuiteCase) → i < length cs → Any P (case_files (get_or cs i d)) → Any P (flat_map case_files cs)
-any_flat P [] i d lt a = absurd (omega arith)
-any_flat P (c ∷ cs) zero d lt a = any_left P (case_files c) (flat_map case_files cs) a
-any_flat P (c ∷ cs) (suc i) d lt a = any_right P (case_files c) (flat_map case_files cs) (any_flat P cs i d (omega arith) a)
 
 -- ---- counts
 
@@ -37,13 +31,6 @@ pub any_within : (names : List (List ℕ)) (old mid between new : List ℕ → �
     → AnyRose names old new
 any_within names old mid between new before behind any =
     any_map (λ n. Rose (mid n) (between n)) (λ n. Rose (old n) (new n)) names (λ n rose. rose_within (old n) (mid n) (between n) (new n) (before n) (behind n) rose) any
-
--- of one of all cases, whose files were read after others
-pub case_rose : (cs : List SuiteCase) (i : ℕ) (c : SuiteCase) (old mid new : List ℕ → ℕ) → i < length cs → c ≡ get_or cs i c → ((n : List ℕ) → old n ≤ mid n)
-    → AnyRose (case_files c) mid new → AnyRose (flat_map case_files cs) old new
-case_rose cs i c old mid new lt at later any =
-    any_flat (λ n. Rose (old n) (new n)) cs i c lt
-    (subst (λ (d : SuiteCase). AnyRose (case_files d) old new) at (any_within (case_files c) old mid new new later (λ n. omega arith) any))
 
 -- ---- the files of a case
 

@@ -1,13 +1,18 @@
 -- The cases one after the other.
-use Rattle.std.proofs.Common.{◌≡◌, ℕ, zero, suc, ◌+◌, ◌<◌, ◌≤◌, List, [], ◌∷◌, ◌++◌, length, map, drop, get_or, refl, sym, ap, ◌∙◌, subst, append_assoc, drop-cons, arith}
-use Rattle.std.specs.Prelude.{Option, Some, None, IfSome, All, slice_get}
+use Rattle.std.proofs.Common.{◌≡◌, ℕ, zero, suc, ◌+◌, ◌<◌, ◌≤◌, Bool, false, List, [], ◌∷◌, ◌++◌, length, map, drop, get_or, refl, sym, ap, ◌∙◌, subst, append_assoc, drop-cons, arith}
+use Rattle.std.specs.Prelude.{Option, Some, None, IfSome, All, slice_get, if◌then◌else◌}
+use Rattle.std.specs.Option.{option_map_or}
 use Rattle.std.proofs.Math.ListN.{drop_of_length-le}
 use Rattle.std.proofs.lemmas.List.{append-nil}
 use Rattle.std.proofs.lemmas.Option.{get_or_from_slice_get, slice_get_within}
 use Rattle.pv_cases.specs.Cases.{SuiteCase}
 use Rattle.pv_cases.specs.Suites.{CaseTold}
-use Rattle.pv_suite.specs.Answers.{Given, Came, AllTold, LongOutput, with_told, FirstComes, TooLong, Fits, CasesCome, given_of}
+use Rattle.pv_script.specs.Outside.{Rose}
+use Rattle.pv_serve.specs.Outside.{AnyRose}
+use Rattle.pv_suite.specs.Answers.{Given, Came, AllTold, LongOutput, with_told, FirstComes, TooLong, Fits, CasesCome, given_of, is_long}
+use Rattle.pv_suite.specs.Causes.{case_files, is_refused, run_files}
 use Rattle.pv_suite.specs.Answering.{IsCaseOf}
+use Rattle.pv_suite.proofs.RoseLemmas.{any_left, any_right, any_within}
 
 -- functions that agree everywhere are the same
 pub same_held : {A : Type 0} (old new : List ℕ → A) → ((n : List ℕ) → new n ≡ old n) → new ≡ old
@@ -69,6 +74,33 @@ pub leads_to_all : (held : List ℕ → Option (List ℕ)) (cs : List SuiteCase)
 leads_to_all held cs i ts end leads =
     subst (CasesCome held 1 cs) (ap (λ (xs : List CaseTold). AllTold xs) (append-nil ts))
     (leads (AllTold []) (subst (λ (xs : List SuiteCase). CasesCome held (i + 1) xs (AllTold [])) (sym (drop_of_length-le cs end)) refl))
+
+-- ---- whose files are read
+
+-- a file of the cases that are left is one of a case that is run
+abbrev pub Reaches : (held : List ℕ → Option (List ℕ)) (cs : List SuiteCase) (i : ℕ) → Type 0
+Reaches held cs i = (old new : List ℕ → ℕ) → AnyRose (run_files held (drop i cs)) old new → AnyRose (run_files held cs) old new
+
+fits_of : (n : ℕ) (c : SuiteCase) (t : CaseTold) (held : Option Given) → IsCaseOf n c held (Some t) → option_map_or (λ (g : Given). is_long g.output) held false ≡ false
+fits_of n c t None is = refl
+fits_of n c t (Some g) is = is.fits
+
+-- a case that is told is followed by the next
+pub reaches_on : (held : List ℕ → Option (List ℕ)) (cs : List SuiteCase) (i : ℕ) (c : SuiteCase) (t : CaseTold) → i < length cs → c ≡ get_or cs i c
+    → IsCaseOf (i + 1) c (given_of c held) (Some t) → Reaches held cs i → Reaches held cs (i + 1)
+reaches_on held cs i c t lt at is reaches old new any =
+    let behind = subst (λ (b : Bool). AnyRose (if b then [] else run_files held (drop (i + 1) cs)) old new) (sym (fits_of (i + 1) c t (given_of c held) is)) any in
+    reaches old new
+    (subst (λ (xs : List SuiteCase). AnyRose (run_files held xs) old new) (first_left cs i c lt at)
+    (any_right (λ n. Rose (old n) (new n)) (case_files c) (if is_refused held c then [] else run_files held (drop (i + 1) cs)) behind))
+
+-- the files of a case, which were read after others
+pub reaches_case : (held : List ℕ → Option (List ℕ)) (cs : List SuiteCase) (i : ℕ) (c : SuiteCase) (old mid new : List ℕ → ℕ) → i < length cs → c ≡ get_or cs i c
+    → ((n : List ℕ) → old n ≤ mid n) → AnyRose (case_files c) mid new → Reaches held cs i → AnyRose (run_files held cs) old new
+reaches_case held cs i c old mid new lt at later any reaches =
+    reaches old new
+    (subst (λ (xs : List SuiteCase). AnyRose (run_files held xs) old new) (first_left cs i c lt at)
+    (any_left (λ n. Rose (old n) (new n)) (case_files c) (if is_refused held c then [] else run_files held (drop (i + 1) cs)) (any_within (case_files c) old mid new new later (λ n. omega arith) any)))
 
 -- ---- for the loop
 

@@ -65,7 +65,7 @@ walked_view (walked.Long number) = LongOutput number
 -- was no memory
 abbrev pub ReadServed : (list : List ℕ) (held : List ℕ → Option (List ℕ)) (faults_old faults_new : List ℕ → ℕ) (report : Sunk) (status : ℕ) → Type 0
 ReadServed list held faults_old faults_new report status =
-    JobReplied (IsListReply (cases_of list) held) (AnyRose (list_files (cases_of list)) faults_old faults_new) report status
+    JobReplied (IsListReply (cases_of list) held) (AnyRose (list_files held (cases_of list)) faults_old faults_new) report status
 
 -- docs/FORMATS.md, Suites: what came of the list in a file: it got a reply; a file could not be read (7.21.8.1p3), the list or one that it names; or
 -- there was no memory

@@ -1,4 +1,5 @@
 pub mod Words
 pub mod Answers
+pub mod Clauses
 pub mod Causes
 pub mod Answering

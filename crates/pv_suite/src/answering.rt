@@ -1,12 +1,11 @@
 //! The reply to a list.
 ghost use Rattle.std.specs.Prelude.{◌≡◌, ◌≤◌, ℕ, List, map, All, Ok, IfOk, IsErrOf};
-ghost use Rattle.std.specs.List.{flat_map};
 ghost use Rattle.pv_serve.specs.Outside.{AnyRose};
 ghost use Rattle.pv_serve.specs.Replying.{reply_view};
 ghost use Rattle.pv_cases.specs.Cases.{cases_of};
 ghost use Rattle.pv_cases.specs.Views.{case_view, told_view, IsBounded};
 ghost use Rattle.pv_suite.specs.Answers.{AllTold, LongOutput, IsListReply, refused_by, reply_of};
-ghost use Rattle.pv_suite.specs.Causes.{case_files, list_files};
+ghost use Rattle.pv_suite.specs.Causes.{list_files, run_files};
 ghost use Rattle.pv_suite.specs.Answering.{walked_view};
 ghost use Rattle.pv_script.specs.Outside.{HoldTheSame};
 
@@ -25,7 +24,7 @@ pub fn answer<F: Files>(alloc: Global, list: &[u8], files: &mut F) -> Result<Rep
     ensures reply { IfOk result (λ r. IsListReply (cases_of list.now) (F.held files.old) (reply_view r)) }
     ensures same { HoldTheSame F.held files.old files.new }
     ensures later { (n : List ℕ) → F.faults files.old n ≤ F.faults files.new n }
-    ensures cause { IsErrOf result Unanswered.Fault → AnyRose (list_files (cases_of list.now)) (F.faults files.old) (F.faults files.new) }
+    ensures cause { IsErrOf result Unanswered.Fault → AnyRose (list_files (F.held files.old) (cases_of list.now)) (F.faults files.old) (F.faults files.new) }
 {
     match cases(alloc, list) {
         Ok(cases) => answer_cases(alloc, cases.as_slice(), files),
@@ -44,7 +43,7 @@ fn answer_cases<F: Files>(
     ensures same { HoldTheSame F.held files.old files.new }
     ensures later { (n : List ℕ) → F.faults files.old n ≤ F.faults files.new n }
     ensures cause { IsErrOf result Unanswered.Fault →
-        AnyRose (flat_map case_files (map case_view cases.now)) (F.faults files.old) (F.faults files.new) }
+        AnyRose (run_files (F.held files.old) (map case_view cases.now)) (F.faults files.old) (F.faults files.new) }
 {
     let walked = match walk(alloc, cases, files) {
         Ok(walked) => walked,

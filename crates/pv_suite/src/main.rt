@@ -5,6 +5,7 @@
 
 mod answering;
 mod calling;
+mod clauses;
 mod error;
 mod files;
 mod running;
@@ -12,6 +13,7 @@ mod walking;
 mod words;
 
 pub use calling::{suite, suite_calmly};
+pub use clauses::each_clause_is_counted;
 use pv_script::{DiskFiles, Printed};
 use pv_serve::{NO_MEMORY, NoMemory};
 use std::alloc::Global;

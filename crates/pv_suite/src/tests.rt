@@ -115,3 +115,55 @@ fn each_calm_row_is_told(rt: HostRuntime) {
         }
     }
 }
+
+// What is told of the list `l` where the file `long` has so many bytes.
+fn told_beside(rt: &impl Abort, alloc: Global, list: &str, long: usize) -> String {
+    let words = words_of(alloc, "l").expect(rt, "no memory");
+    let bytes = "x".repeat(alloc, long).expect(rt, "no memory");
+    let mut files = MemFiles::new(alloc, &[]).expect(rt, "no memory");
+    for (name, bytes) in rows::FILES {
+        files.put(name, bytes.as_bytes()).expect(rt, "no memory");
+    }
+    files.put("l", list.as_bytes()).expect(rt, "no memory");
+    files.put("long", bytes.as_bytes()).expect(rt, "no memory");
+    let mut report = MemSink::new(alloc, 4096, &[]).expect(rt, "no memory");
+    let status = suite(alloc, words.as_slice(), &mut files, &mut report);
+    text(alloc, status, report.bytes()).expect(rt, "no memory")
+}
+
+// The longest output, and a longer one: behind it the source of the next case is not there, and nobody reads it.
+#[test]
+fn a_longer_output_ends_the_list(rt: HostRuntime) {
+    let list = "a.c - long 9 exit status=0 turn=3\nnone - - 9 x\n";
+    let told = told_beside(&rt, rt.alloc(), list, 1_048_577);
+    expect(
+        &rt,
+        "a longer output",
+        told.as_str(),
+        "16\nlist reason=output case=1\n",
+    );
+    let told = told_beside(&rt, rt.alloc(), list, 1_048_576);
+    expect(&rt, "the longest output", told.as_str(), "11\nfault read\n");
+}
+
+// The longest list, and a longer one.
+#[test]
+fn a_longer_list_is_refused(rt: HostRuntime) {
+    let alloc = rt.alloc();
+    let longest = "#abcdef\n".repeat(alloc, 8192).expect(&rt, "no memory");
+    let told = told_beside(&rt, alloc, longest.as_str(), 0);
+    expect(
+        &rt,
+        "the longest list",
+        told.as_str(),
+        "0\nsuite cases=0 passed=0\n",
+    );
+    let longer = format!(in alloc; "{longest}#").expect(&rt, "no memory");
+    let told = told_beside(&rt, alloc, longer.as_str(), 0);
+    expect(
+        &rt,
+        "a longer list",
+        told.as_str(),
+        "16\nlist reason=size\n",
+    );
+}

@@ -1,10 +1,9 @@
 //! The cases of a list, in their order.
 ghost use Rattle.std.specs.Prelude.{◌≡◌, ◌≤◌, ◌<◌, ◌+◌, ℕ, List, map, option_map, All, IfOk, IsErrOf, slice_get, Some, length};
-ghost use Rattle.std.specs.List.{flat_map};
 ghost use Rattle.pv_serve.specs.Outside.{AnyRose};
 ghost use Rattle.pv_cases.specs.Views.{case_view, IsBounded, told_view};
 ghost use Rattle.pv_suite.specs.Answers.{CasesCome, given_of};
-ghost use Rattle.pv_suite.specs.Causes.{case_files};
+ghost use Rattle.pv_suite.specs.Causes.{case_files, run_files};
 ghost use Rattle.pv_suite.specs.Answering.{walked_view, IsCaseOf};
 ghost use Rattle.pv_script.specs.Outside.{HoldTheSame};
 
@@ -35,7 +34,7 @@ pub fn walk<F: Files>(
     ensures same { HoldTheSame F.held files.old files.new }
     ensures later { (n : List ℕ) → F.faults files.old n ≤ F.faults files.new n }
     ensures cause { IsErrOf result Unanswered.Fault →
-        AnyRose (flat_map case_files (map case_view cases.now)) (F.faults files.old) (F.faults files.new) }
+        AnyRose (run_files (F.held files.old) (map case_view cases.now)) (F.faults files.old) (F.faults files.new) }
 {
     let mut told = Vec::new(alloc);
     for i in 0..cases.len() {

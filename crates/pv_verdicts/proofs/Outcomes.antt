@@ -18,7 +18,7 @@ use Rattle.pv_eval.specs.Operations.{Op, Puts, does}
 use Rattle.pv_eval.proofs.Closed.{IsAsked, beside_setting}
 use Rattle.pv_exec.specs.declared.outcome.Outcome.{Outcome}
 use Rattle.pv_exec.specs.declared.outcome.Outcome.TheVariants as outcome
-use Rattle.pv_exec.specs.Run.{setting_of, initial_state, run_of, status_of, outcome_of_refusal, outcome_of_stop}
+use Rattle.pv_exec.specs.Run.{setting_of, initial_state, run_of_by, run_of, status_of, outcome_of_refusal, outcome_of_stop}
 use Rattle.pv_exec.specs.Laws.{run_at}
 use Rattle.pv_exec.proofs.Executed.{WaysIn, even-closed, run-closed}
 use Rattle.pv_exec.proofs.Reaching.{EndFits, run-fits}
@@ -104,7 +104,7 @@ module _ (lines : List ScriptLine) where
 -- ---- the whole run
 
 run-ends : (u : Stored) (n : ℕ) (sides : Option (List Bool)) (zap : Bool) (lines : List ScriptLine) → OwnNames (whole_unit u).names → DeniesHeap lines → Ends lines (run_at u sides zap lines n)
-unfolding run_of
+unfolding run_of_by
 run-ends u n sides zap lines own denies =
     let b = setting_of u n sides zap in
     run-closed b n sides (going lines b own denies) n (even-closed b n sides (going lines b own denies).ways (λ A s h. tt) n) (initial_state lines zap) refl

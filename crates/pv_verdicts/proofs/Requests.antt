@@ -152,7 +152,7 @@ module _ (b : Setting) (own : OwnNames b.unit.names) (lines : List ScriptLine) (
   works-on (Makes o) w s = makes-on o w s
   works-on (MakesLiteral l) w s = literal-makes l w s
   works-on (Ends o) w s = possible-on (is_live w (instance_for b o w)) w _ (λ e. record { fine = tt })
-  works-on BeginsBody w s = record { fine = tt }
+  works-on (BeginsBody f l) w s = record { fine = tt }
   works-on EndsBody w s = record { fine = tt }
   works-on (Fills o v) w s = possible-on (can_fill b o w) w _ (λ c. record { fine = tt })
   works-on (Puts o offset l v) w s = possible-on (can_put b o offset l v w) w _ (λ c. record { fine = tt })

@@ -3,7 +3,7 @@ use Rattle.std.specs.Prelude.{◌≡◌, ◌≢◌, ℕ, List, [], ◌∷◌, �
 use Rattle.pv_watch.specs.declared.event.Event.{Event}
 use Rattle.pv_watch.specs.declared.watch.Attend.{Attend}
 use Rattle.pv_watch.specs.declared.watch.Attend.TheVariants.{More, Enough, NoMemory}
-use Rattle.pv_watch.specs.Slots.{Slot, Says, slot}
+use Rattle.pv_watch.specs.Slots.{Slot, Says}
 
 -- an event (of the memory model) was seen, and there are as many now as are wanted, or not; or it was not seen
 abbrev pub Sees : List Event → List Event → ℕ → Event → Attend → Type 0

@@ -4,5 +4,7 @@ pub mod LineParts
 pub mod Texts
 pub mod TextParts
 pub mod Seen
+pub mod Kinds
 pub mod Slots
 pub mod Halls
+pub mod Shipped

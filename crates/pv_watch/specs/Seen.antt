@@ -1,5 +1,5 @@
--- What a watcher is, and what it says of what it has seen.
-use Rattle.std.specs.Prelude.{◌≡◌, ℕ, List}
+-- What a watcher is.
+use Rattle.std.specs.Prelude.{ℕ, List}
 use Rattle.pv_watch.specs.declared.event.Event.{Event}
 
 -- a kind of watcher: its number, by which it is asked for, and its text, by how many events it wants, those that it has seen, and the texts of names
@@ -7,7 +7,3 @@ use Rattle.pv_watch.specs.declared.event.Event.{Event}
 pub record Kind : Type 0 where
   pub number : ℕ
   pub text : (wants : ℕ) → List Event → List (List ℕ) → List ℕ
-
--- the kind's text (docs/FORMATS.md, What watchers say; memory model)
-abbrev pub IsText : Kind → (wants : ℕ) → List Event → List (List ℕ) → List ℕ → Type 0
-IsText kind wants seen names text = text ≡ kind.text wants seen names

@@ -4,7 +4,8 @@ use Rattle.std.specs.List.{list_any, AllZip}
 use Rattle.pv_watch.specs.declared.event.Event.{Event}
 use Rattle.pv_watch.specs.declared.seats.Seat.{Seat}
 use Rattle.pv_watch.specs.declared.seats.Seat.TheVariants.{In, Out}
-use Rattle.pv_watch.specs.Seen.{Kind, IsText}
+use Rattle.pv_watch.specs.Seen.{Kind}
+use Rattle.pv_watch.specs.Kinds.{IsText}
 
 -- a watcher of a run's events (the memory model) that is present, or the text of one that has left
 pub data Slot : Type 0 where

@@ -18,10 +18,14 @@ pub enum Attend {
 }
 
 /// A watcher: it means the list of the events that it has seen, its kind, which says its text, and how many it wants to see.
+///
+/// The numbers 1 to 4 are given: a watcher of one of them has the text of the story, the census, the pairs or the journal,
+/// whatever text its kind brings. A watcher of any other number has a text of its own.
 pub trait Watch: Drop {
     ghost use Rattle.std.specs.Prelude.{ℕ, List};
     ghost use Rattle.pv_watch.specs.declared.event.Event.{Event};
-    ghost use Rattle.pv_watch.specs.Seen.{Kind, IsText};
+    ghost use Rattle.pv_watch.specs.Seen.{Kind};
+    ghost use Rattle.pv_watch.specs.Kinds.{IsText};
     ghost use Rattle.pv_watch.specs.Adding.{Sees};
 
     /// The events that it has seen, in order.

@@ -1,8 +1,9 @@
 -- A bridge: what functions answer that do a part of what Objects says.
 use Rattle.std.specs.Prelude.{◌++◌, None, length, [], ◌-◌, ℕ, replicate, List, ◌∷◌, drop, Some, Bool, Result}
 use Rattle.std.specs.declared.option.Option.{Option}
-use Rattle.pv_world.specs.Worlds.{World, Bindings, Nothing}
-use Rattle.pv_world.specs.Objects.{owning, bind, instance_made, address_of, literal_of, function_of, instance_of, function_bound, literal_bound, with_characters}
+use Rattle.pv_world.specs.Worlds.{World, Body, Nothing}
+use Rattle.pv_world.specs.declared.bodies.Call.{Call}
+use Rattle.pv_world.specs.Objects.{owning, bind, begun_body, instance_made, address_of, literal_of, function_of, instance_of, function_bound, literal_bound, with_characters}
 use Rattle.pv_world.specs.Doing.{Done, Answers}
 use Rattle.pv_shadow.specs.Bytes.{Store}
 use Rattle.pv_shadow.specs.declared.byte.Byte.{Byte}
@@ -37,7 +38,7 @@ abbrev pub filling : Option ℕ → Byte
 filling v = record { value = v; prov = Empty; index = None; mark = None }
 
 -- the bodies below the innermost one
-abbrev pub without_first : List Bindings → List Bindings
+abbrev pub without_first : List Body → List Body
 without_first ms = drop 1 ms
 
 -- an instance that was made (6.2.4p2)
@@ -69,8 +70,8 @@ abbrev pub names_function : ℕ → World → Done
 names_function f w = Answers (pointer (address_of w (function_of w f))) w no_telling
 
 -- a body begins with no objects of its own
-abbrev pub begins_body : World → Done
-begins_body w = Answers Nothing (record w { bodies = map.empty ∷ w.bodies }) no_telling
+abbrev pub begins_body : (function line : ℕ) → World → Done
+begins_body f line w = Answers Nothing (begun_body w f line) no_telling
 
 -- a body ends; those below it are left
 abbrev pub ends_body : World → Done
@@ -79,3 +80,11 @@ ends_body w = Answers Nothing (record w { bodies = drop 1 w.bodies }) no_telling
 -- 6.5.1p2: an identifier designates its object
 abbrev pub names_object : ℕ → (lasting : Bool) → World → Done
 names_object o lasting w = Answers (pointer (address_of w (instance_of w o lasting))) w no_telling
+
+-- 6.5.2.2: the call of a body that was begun
+abbrev pub call_of : Body → Call
+call_of b = record { function = b.function; line = b.line }
+
+-- 6.2.4p6: the instance of an object in a body
+abbrev pub binding_in : (object : ℕ) → Body → Option ℕ
+binding_in o b = map.get b.bindings o

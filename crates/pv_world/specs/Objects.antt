@@ -15,19 +15,23 @@ use Rattle.pv_object.specs.declared.values.Pointer.{Pointer}
 use Rattle.pv_object.specs.Memory.{Mem}
 use Rattle.pv_object.specs.Creating.{creation, without}
 use Rattle.pv_watch.specs.declared.event.What.TheVariants as what
-use Rattle.pv_world.specs.Worlds.{Nothing, World, Bindings, Halts, Refused}
+use Rattle.pv_world.specs.Worlds.{Nothing, World, Body, Halts, Refused}
 use Rattle.pv_world.specs.Telling.{no_telling, telling, event_of_making}
 use Rattle.pv_world.specs.Doing.{Done, Answers, Fails}
 
+-- 6.9.1: a body begins, with no objects of its own: of this function, for the call in this line
+abbrev pub begun_body : World → (function line : ℕ) → World
+begun_body w f line = record w { bodies = record { function = f; line = line; bindings = map.empty } ∷ w.bodies }
+
 -- 6.2.4p6: the instance of an object in the innermost body
-abbrev pub bound_in : List Bindings → ℕ → Option ℕ
+abbrev pub bound_in : List Body → ℕ → Option ℕ
 bound_in [] o = None
-bound_in (m ∷ ms) o = map.get m o
+bound_in (m ∷ ms) o = map.get m.bindings o
 
 -- 6.2.4p6: in the innermost body, the object has this instance from now on
-abbrev pub bind_in : List Bindings → ℕ → ℕ → List Bindings
+abbrev pub bind_in : List Body → ℕ → ℕ → List Body
 bind_in [] o i = []
-bind_in (m ∷ ms) o i = map.insert m o i ∷ ms
+bind_in (m ∷ ms) o i = record m { bindings = map.insert m.bindings o i } ∷ ms
 
 -- 6.2.1, 6.2.4: the instance of an object in scope, if it has one; one with static storage is no body's
 abbrev pub bound_to : World → ℕ → (lasting : Bool) → Option ℕ

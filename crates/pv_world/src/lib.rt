@@ -27,6 +27,7 @@ mod truth;
 mod world;
 
 pub use accesses::{mark_of, origin_of};
+pub use bodies::Call;
 pub use bound::Bound;
 pub use calculation::{accept, calculate, calculate_one, follow, need};
 pub use failing::{Blame, fail, stopped};

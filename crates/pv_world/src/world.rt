@@ -1,14 +1,16 @@
 // The world: its memory, and which instance each object and literal has.
-ghost use Rattle.std.specs.Prelude.{◌≡◌, ◌∷◌, [], length, IfOk, OnOk};
+ghost use Rattle.std.specs.Prelude.{◌≡◌, [], length, IfOk, OnOk, slice_get};
+ghost use Rattle.std.specs.Option.{option_map, option_and_then};
 ghost use Rattle.std.specs.Borrow.{Lends, sem};
 ghost use Rattle.std.specs.FinMap as map;
 ghost use Rattle.pv_object.specs.Memory.{empty_memory};
 ghost use Rattle.pv_object.specs.contracts.memory.Memory.{the_row as memory_row};
 ghost use Rattle.pv_world.specs.contracts.world.World.{the_row};
-ghost use Rattle.pv_world.specs.Objects.{bound_to, bind, owner_of};
-ghost use Rattle.pv_world.specs.ObjectParts.{without_first};
+ghost use Rattle.pv_world.specs.Objects.{bound_to, bind, begun_body, owner_of};
+ghost use Rattle.pv_world.specs.ObjectParts.{without_first, call_of, binding_in};
 
 use crate::bodies;
+use crate::bodies::{Body, Call};
 use crate::bound::Bound;
 use pv_object::Memory;
 use pv_prov::NoMemory;
@@ -27,7 +29,7 @@ pub struct World {
     pub(crate) statics: Bound,
     pub(crate) literals: Bound,
     pub(crate) functions: Bound,
-    pub(crate) bodies: VecDeque<Bound>,
+    pub(crate) bodies: VecDeque<Body>,
 }
 
 impl Model for World {
@@ -121,11 +123,32 @@ impl World {
         }
     }
 
-    /// A body begins, with no objects of its own (6.9.1).
-    pub fn begin_body(&mut self) -> Result<(), NoMemory>
-        ensures { OnOk result (self.new ≡ record self.old { bodies = map.empty ∷ self.old.bodies }) }
+    /// A body begins, with no objects of its own (6.9.1): of the function with this name, for the call in this line.
+    pub fn begin_body(&mut self, function: u32, line: u32) -> Result<(), NoMemory>
+        ensures { OnOk result (self.new ≡ begun_body self.old function line) }
     {
-        bodies::begin(self.alloc, &mut self.bodies)
+        bodies::begin(self.alloc, &mut self.bodies, function, line)
+    }
+
+    /// How many bodies were begun and have not ended.
+    pub fn depth(&self) -> usize
+        ensures { result ≡ length self.now.bodies }
+    {
+        self.bodies.len()
+    }
+
+    /// The call of a body, counted from the innermost, which is number 0.
+    pub fn call(&self, k: usize) -> Option<Call>
+        ensures { result ≡ option_map call_of (slice_get self.now.bodies k) }
+    {
+        bodies::call_at(&self.bodies, k)
+    }
+
+    /// The instance of an automatic object of a body, counted from the innermost, which is number 0.
+    pub fn bound_at(&self, k: usize, object: u32) -> Option<u64>
+        ensures { result ≡ option_and_then (binding_in object) (slice_get self.now.bodies k) }
+    {
+        bodies::get_at(&self.bodies, k, object)
     }
 
     /// The innermost body ends.

@@ -6,5 +6,5 @@ int main(void) {
   int *p = (int *)a;
   *p = 11;
   printf("%d %d %d\n", x, y, a == b);
-  return 0;
+  return p[1];
 }

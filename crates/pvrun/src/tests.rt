@@ -1,10 +1,8 @@
 //! What rows of text can't show: words that are no job, devices that fail or never do, other halls, sides. The rows of whole programs
 //! are those of `pv_gallery`.
 
-use pv_explain::{Census, Explain, Pointers};
 use pv_script::{MemFiles, MemSink};
-use pv_serve::{NoMemory, serve};
-use pv_watch::{Hall, Watch};
+use pv_serve::{NoMemory, serve_shipped};
 use std::alloc::Global;
 use std::process::Abort;
 use std::test::*;
@@ -47,26 +45,6 @@ struct Input<'a> {
     script: &'a [u8],
 }
 
-// The status of a call before the program's three watchers.
-fn served(
-    rt: &impl Abort,
-    alloc: Global,
-    words: &[String],
-    files: &mut MemFiles,
-    out: &mut MemSink,
-    report: &mut MemSink,
-) -> u8 {
-    let explain = Box::new(alloc, Explain::new(alloc, 65_536)).expect(rt, "no memory");
-    let census = Box::new(alloc, Census::new(alloc, u64::MAX)).expect(rt, "no memory");
-    let pointers = Box::new(alloc, Pointers::new(alloc, 65_536)).expect(rt, "no memory");
-    let mut watchers: Vec<Box<dyn Watch>> = Vec::new(alloc);
-    watchers.push(explain).expect(rt, "no memory");
-    watchers.push(census).expect(rt, "no memory");
-    watchers.push(pointers).expect(rt, "no memory");
-    let mut hall = Hall::new(alloc, watchers).expect(rt, "no memory");
-    serve(alloc, words, files, out, report, &mut hall)
-}
-
 // What is told of the source `a.c`, where the script `s` is there to be named.
 fn told(rt: &impl Abort, alloc: Global, input: Input<'_>, words: &str, devices: Devices) -> String {
     let words = words_of(alloc, words).expect(rt, "no memory");
@@ -76,13 +54,10 @@ fn told(rt: &impl Abort, alloc: Global, input: Input<'_>, words: &str, devices: 
     let most = devices.most.max(1);
     let mut out = MemSink::new(alloc, most, &[devices.out]).expect(rt, "no memory");
     let mut report = MemSink::new(alloc, most, &[devices.write]).expect(rt, "no memory");
-    let status = served(
+    let words = words.as_slice();
+    let status = serve_shipped(alloc, words, &mut files, &mut out, &mut report).expect(
         rt,
-        alloc,
-        words.as_slice(),
-        &mut files,
-        &mut out,
-        &mut report,
+        "no memory",
     );
     text(alloc, status, out.bytes(), report.bytes()).expect(rt, "no memory")
 }

@@ -235,7 +235,7 @@ module _ (b : Setting) {R : Mem → Mem → Type 0} (changes : Changes (Filled b
   works-on (MakesLiteral l) is w e = literal-makes l w
   works-on (MakesFunction f) is w e = function-makes f w
   works-on (Ends o) is w e = ends-object o w
-  works-on BeginsBody is w e = record { leads = changes.itself }
+  works-on (BeginsBody f l) is w e = record { leads = changes.itself }
   works-on EndsBody is w e = record { leads = changes.itself }
   works-on (Fills o v) is w e = fills-on o v w
   works-on (Puts o offset l v) is w e = puts-on o offset l v w is

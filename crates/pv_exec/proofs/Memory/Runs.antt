@@ -17,8 +17,8 @@ use Rattle.pv_eval.specs.ActingParts.{one_kept, keeps_both}
 use Rattle.pv_eval.specs.Constants.{constant_worth}
 use Rattle.pv_eval.specs.Operations.{Op, Puts, does}
 use Rattle.pv_eval.proofs.Closed.{IsAsked, beside_setting}
-use Rattle.pv_exec.specs.Calls.{below}
-use Rattle.pv_exec.specs.Run.{setting_of, initial_state, run_of}
+use Rattle.pv_exec.specs.OfRuns.{below}
+use Rattle.pv_exec.specs.Run.{setting_of, initial_state, run_of_by, run_of}
 use Rattle.pv_exec.specs.Laws.{run_at}
 use Rattle.pv_exec.proofs.Executed.{WaysIn, Alike, even-closed, run-closed}
 use Rattle.pv_exec.specs.Laying.{table_at, HasNoEmptyTag}
@@ -92,7 +92,7 @@ module _ (b : Setting) {R : Mem → Mem → Type 0} (changes : Changes (Filled b
 
 -- the whole run
 pub run-comes : (u : Stored) (sides : Option (List Bool)) (zap : Bool) (script : List ScriptLine) (n : ℕ) {R : Mem → Mem → Type 0} (changes : Changes (HasNoEmptyTag u) R) → Comes R (initial_state script zap) (end_of (run_at u sides zap script n))
-unfolding run_of
+unfolding run_of_by
 run-comes u sides zap script n changes =
     let b = setting_of u n sides zap in
     run-closed b n sides (coming b changes) n (all-come b changes n) (initial_state script zap)

@@ -108,7 +108,7 @@ suits-on b ds (Makes o) w = refl
 suits-on b ds (MakesLiteral l) w = refl
 suits-on b ds (MakesFunction f) w = refl
 suits-on b ds (Ends o) w = refl
-suits-on b ds BeginsBody w = refl
+suits-on b ds (BeginsBody f l) w = refl
 suits-on b ds EndsBody w = refl
 suits-on b ds (Fills o v) w = refl
 suits-on b ds (Puts o offset l v) w = refl
@@ -265,7 +265,7 @@ module _ (b : Setting) (F : Type 0) (ds : List Bool) where
     works-track (MakesLiteral l) w e f = literal-makes l w f
     works-track (MakesFunction g) w e f = function-makes g w f
     works-track (Ends o) w e f = ends-track o w f
-    works-track BeginsBody w e f = gives-tracks ds Nothing _ no_telling no_telling refl f.1 (nearly ds (pairs_of w) f.2)
+    works-track (BeginsBody g l) w e f = gives-tracks ds Nothing _ no_telling no_telling refl f.1 (nearly ds (pairs_of w) f.2)
     works-track EndsBody w e f = gives-tracks ds Nothing _ no_telling no_telling refl f.1 (nearly ds (pairs_of w) f.2)
     works-track (Fills o v) w e f = fills-track o v w f
     works-track (Puts o offset l v) w e f = puts-track o offset l v w f

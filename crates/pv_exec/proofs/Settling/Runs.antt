@@ -18,8 +18,8 @@ use Rattle.pv_eval.specs.Constants.{constant_worth, is_high_pair}
 use Rattle.pv_eval.specs.Acting.{answer_with_sides, after_doing, pair_count}
 use Rattle.pv_eval.specs.Operations.{Op, Puts, does, act}
 use Rattle.pv_eval.proofs.Closed.{IsLvalue, IsAsked, beside_setting}
-use Rattle.pv_exec.specs.Calls.{below}
-use Rattle.pv_exec.specs.Run.{setting_of, initial_state, run_of, outcome_of, sides_at}
+use Rattle.pv_exec.specs.OfRuns.{below}
+use Rattle.pv_exec.specs.Run.{setting_of, initial_state, run_of_by, run_of, outcome_of, sides_at}
 use Rattle.pv_exec.specs.Laws.{run_at}
 use Rattle.pv_exec.proofs.Executed.{WaysIn, Alike, even-closed, run-closed}
 use Rattle.pv_exec.specs.Laying.{table_at, HasNoEmptyTag}
@@ -272,7 +272,7 @@ module _ (u : Stored) (full : HasNoEmptyTag u) (zap : Bool) (script : List Scrip
   late_run = run_at u None zap script n
 
   run-follows : (ds : List Bool) → pair_count (end_of late_run).world ≤ length ds → Follows ds late_run (run_at u (Some ds) zap script n)
-  unfolding run_of
+  unfolding run_of_by
   run-follows ds enough =
       let b = setting_of u n None zap in
       (run-closed b n (Some ds) (simulating b full refl ds library) n (levels b full refl ds library n)).follows (initial_state script zap) [] (first-sound (HasNoEmptyTag u) script zap) enough (none-allowed ds)

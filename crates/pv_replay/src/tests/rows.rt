@@ -1,7 +1,7 @@
 //! Calls, and what is told of each, worked out by hand.
 
 /// The files that words may name beside the journal `j`.
-pub(super) const FILES: [(&str, &str); 6] = [
+pub(super) const FILES: [(&str, &str); 8] = [
     ("a.c", "int main(void){return 0;}"),
     (
         "r.c",
@@ -14,6 +14,14 @@ pub(super) const FILES: [(&str, &str); 6] = [
         "int printf(const char *, ...); int main(void){printf(\"hello\\n\"); return 0;}",
     ),
     ("x", "a 1 0x20000\na b c\n"),
+    (
+        "many.c",
+        "int main(void) { int i; for (i = 0; i < 32767; i = i + 1) { int a; } return 0; }",
+    ),
+    (
+        "more.c",
+        "int g; int main(void) { int i; for (i = 0; i < 32767; i = i + 1) { int a; } return 0; }",
+    ),
 ];
 
 /// Calls: the numbers of the read and of the write that fail, 0 for none, where a write takes three bytes, the words, a colon and the

@@ -4,7 +4,7 @@ use super::words::WORDS;
 use super::{Input, SHORTEST, alone, text, with_script, words_of};
 use pv_explain::{Census, Explain, Pointers};
 use pv_script::{CalmFiles, CalmSink};
-use pv_serve::{NoMemory, serve_calmly};
+use pv_serve::{NoMemory, STORY_EVENTS, serve_calmly};
 use pv_watch::{Hall, Watch};
 use std::alloc::Global;
 use std::process::Abort;
@@ -47,9 +47,9 @@ fn served_calmly(
     report: &mut CalmSink,
 ) -> Result<u8, NoMemory> {
     let mut watchers: Vec<Box<dyn Watch>> = Vec::new(alloc);
-    watchers.push(Box::new(alloc, Explain::new(alloc, 65_536))?)?;
+    watchers.push(Box::new(alloc, Explain::new(alloc, STORY_EVENTS))?)?;
     watchers.push(Box::new(alloc, Census::new(alloc, u64::MAX))?)?;
-    watchers.push(Box::new(alloc, Pointers::new(alloc, 65_536))?)?;
+    watchers.push(Box::new(alloc, Pointers::new(alloc, STORY_EVENTS))?)?;
     let mut hall = Hall::new(alloc, watchers)?;
     Ok(serve_calmly(alloc, words, files, out, report, &mut hall))
 }

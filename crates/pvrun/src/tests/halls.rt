@@ -4,7 +4,7 @@ ghost use Rattle.std.specs.Prelude.{codes};
 use super::{expect, text, words_of};
 use pv_explain::{Census, Explain, Pointers};
 use pv_script::{MemFiles, MemSink, Names};
-use pv_serve::serve;
+use pv_serve::{STORY_EVENTS, serve};
 use pv_watch::{Attend, Event, Hall, Watch};
 use std::alloc::Global;
 use std::process::Abort;
@@ -167,7 +167,7 @@ fn watchers_who_are_asked_for_say_their_texts(rt: HostRuntime) {
 fn a_watcher_without_memory_ends_the_call(rt: HostRuntime) {
     let alloc = rt.alloc();
     let mut watchers: Vec<Box<dyn Watch>> = Vec::new(alloc);
-    let inner = Pointers::new(alloc, 65_536);
+    let inner = Pointers::new(alloc, STORY_EVENTS);
     let boxed = Box::new(alloc, Census::new(alloc, u64::MAX)).expect(&rt, "no memory");
     watchers.push(boxed).expect(&rt, "no memory");
     let boxed = Box::new(alloc, Forgetful { inner, room: 2 }).expect(&rt, "no memory");
@@ -198,7 +198,7 @@ fn a_watcher_leaves_when_it_has_seen_enough(rt: HostRuntime) {
 fn a_write_fails_before_a_later_event_is_told(rt: HostRuntime) {
     let alloc = rt.alloc();
     let mut watchers: Vec<Box<dyn Watch>> = Vec::new(alloc);
-    let inner = Pointers::new(alloc, 65_536);
+    let inner = Pointers::new(alloc, STORY_EVENTS);
     let boxed = Box::new(alloc, Forgetful { inner, room: 2 }).expect(&rt, "no memory");
     watchers.push(boxed).expect(&rt, "no memory");
     let told = told_before(

@@ -4,7 +4,7 @@ use super::{expect, text};
 use pv_exec::Side;
 use pv_explain::Pointers;
 use pv_script::MemSink;
-use pv_serve::{Judgement, NoMemory, judge, line, status};
+use pv_serve::{Judgement, NoMemory, STORY_EVENTS, judge, line, status};
 use pv_watch::{Hall, Watch};
 use std::alloc::Global;
 use std::process::Abort;
@@ -62,7 +62,7 @@ fn told_of(alloc: Global, judgement: &Judgement, out: &[u8]) -> Result<String, N
 // What is told of the program with a pair before one who follows its pairs, where the run has these sides, if any are given: a
 // letter for each.
 fn told(rt: &impl Abort, alloc: Global, sides: Option<&str>) -> String {
-    let pointers = Box::new(alloc, Pointers::new(alloc, 65_536)).expect(rt, "no memory");
+    let pointers = Box::new(alloc, Pointers::new(alloc, STORY_EVENTS)).expect(rt, "no memory");
     let mut watchers: Vec<Box<dyn Watch>> = Vec::new(alloc);
     watchers.push(pointers).expect(rt, "no memory");
     let mut hall = Hall::new(alloc, watchers).expect(rt, "no memory");

@@ -1,6 +1,6 @@
 use Rattle.std.proofs.Common.{arith}
 use Rattle.std.proofs.lemmas.Grind.{common_steps}
-use Rattle.pv_eval.specs.Evaluation.{ev}
+use Rattle.pv_eval.specs.Evaluation.{ev_by, ev}
 use Rattle.pv_eval.proofs.Calls.{next-one, next-none}
 use Rattle.pv_typed.specs.Tables.{nodes}
 use Rattle.pv_typed.specs.NodeTrees.{expression_at, list_at}
@@ -12,7 +12,7 @@ pub returns-then-i-children-clause-means : goal.returns-then-i-children-clause-m
 returns-then-i-children-clause-means c = λ b call j s. next-one b call c.args.unit.now c.args.n c.args.line c.args.f c.len-i.result c.args.l c.args.got c.children-children.result.now c.children-children.ensures (grind (arith, common_steps)) j s c.requires.form c.requires.line c.if-i-children.true
 
 pub returns-else-i-children-clause-means : goal.returns-else-i-children-clause-means
-unfolding ev
+unfolding ev_by
 returns-else-i-children-clause-means c = λ b call j s. next-none b call c.args.unit.now c.args.n c.args.line c.args.f c.len-i.result c.args.l c.args.got c.children-children.result.now c.children-children.ensures (grind (arith, common_steps)) j s (omega (arith, c.if-i-children.false))
 
 pub returns-then-i-children-clause-fits : goal.returns-then-i-children-clause-fits

@@ -7,7 +7,7 @@ use Rattle.pv_typed.specs.declared.nodes.Typed.{Typed}
 use Rattle.pv_typed.specs.Nodes.{form_in, arguments_in}
 use Rattle.pv_typed.specs.Tables.{nodes}
 use Rattle.pv_typed.specs.NodeTrees.{expression_at, list_at}
-use Rattle.pv_eval.specs.Evaluation.{ev_call}
+use Rattle.pv_eval.specs.OfRuns.{ev_call}
 use Rattle.pv_world.specs.Coming.{worth_of}
 use Rattle.pv_eval.specs.Moments.{state_of}
 use Rattle.pv_eval.specs.Frames.{arguments_from, argument_after}

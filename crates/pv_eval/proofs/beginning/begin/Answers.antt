@@ -3,7 +3,7 @@ use Rattle.pv_seq.specs.Sequencing.{open_against}
 use Rattle.pv_typed.specs.TypedTree.{type_of}
 use Rattle.pv_typed.specs.NodeTrees.{expression_at}
 use Rattle.pv_typed.specs.Nodes.{form_in}
-use Rattle.pv_eval.specs.Evaluation.{ev_form}
+use Rattle.pv_eval.specs.OfRuns.{ev_form}
 use Rattle.pv_typed.specs.Tables.{nodes}
 use Rattle.pv_eval.specs.Moments.{state_of, Follows}
 use Rattle.pv_eval.specs.Ahead.{Led}

@@ -12,7 +12,8 @@ use Rattle.pv_eval.proofs.Accessing.{access-then}
 use Rattle.std.specs.Prelude.{if◌then◌else◌}
 use Rattle.pv_eval.specs.States.{then_do}
 use Rattle.pv_eval.specs.Sequenced.{node_value}
-use Rattle.pv_eval.specs.Steps.{is_after, stepping, writing}
+use Rattle.pv_eval.specs.Steps.{is_after}
+use Rattle.pv_eval.specs.OfRuns.{stepping, writing}
 use Rattle.pv_eval.proofs.Cases.{stays_both}
 use Rattle.pv_eval.proofs.compound.increment.Goals as goal
 

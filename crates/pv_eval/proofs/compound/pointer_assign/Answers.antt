@@ -10,7 +10,7 @@ use Rattle.std.specs.Prelude.{Err}
 use Rattle.pv_eval.specs.States.{then_do}
 use Rattle.pv_eval.specs.Operations.{Moves, act}
 use Rattle.pv_eval.specs.Sequenced.{node_value}
-use Rattle.pv_eval.specs.Steps.{writing}
+use Rattle.pv_eval.specs.OfRuns.{writing}
 use Rattle.pv_eval.specs.Ahead.{Led}
 use Rattle.pv_eval.proofs.Cases.{stays_both}
 use Rattle.pv_eval.proofs.compound.pointer_assign.Goals as goal

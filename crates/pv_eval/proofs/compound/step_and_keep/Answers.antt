@@ -8,7 +8,8 @@ use Rattle.pv_eval.specs.Moments.{state_of}
 use Rattle.std.specs.Prelude.{if◌then◌else◌}
 use Rattle.pv_eval.specs.States.{then_do}
 use Rattle.pv_eval.specs.Sequenced.{node_value}
-use Rattle.pv_eval.specs.Steps.{writing, stepping, is_after}
+use Rattle.pv_eval.specs.Steps.{is_after}
+use Rattle.pv_eval.specs.OfRuns.{writing, stepping}
 use Rattle.pv_eval.specs.Ahead.{Led}
 use Rattle.pv_eval.proofs.compound.step_and_keep.Goals as goal
 

@@ -8,7 +8,7 @@ use Rattle.pv_world.specs.Worths.{int}
 use Rattle.pv_eval.specs.TypeForms.{kind_of, element_size}
 use Rattle.pv_num.specs.Kinds.{promotion_of}
 use Rattle.pv_eval.specs.Operations.{Moves, act}
-use Rattle.pv_eval.specs.Steps.{combining}
+use Rattle.pv_eval.specs.OfRuns.{combining}
 use Rattle.pv_eval.specs.Moments.{Came, state_of}
 use Rattle.pv_eval.proofs.Stepping.{step-pointer, step-integer}
 use Rattle.pv_eval.proofs.compound.step_value.Goals as goal

@@ -2,7 +2,7 @@ use Rattle.std.proofs.Common.{subst}
 use Rattle.pv_typed.specs.NodeTrees.{expression_at}
 use Rattle.pv_world.specs.Coming.{worth_of}
 use Rattle.pv_eval.specs.States.{then_do}
-use Rattle.pv_eval.specs.Steps.{with_conversion}
+use Rattle.pv_eval.specs.OfRuns.{with_conversion}
 use Rattle.pv_eval.specs.Operations.{Accepts, act}
 use Rattle.pv_eval.specs.Moments.{Came, state_of}
 use Rattle.pv_eval.proofs.converting.hand.Goals as goal

@@ -7,7 +7,8 @@ use Rattle.pv_typed.specs.Nodes.{arguments_in}
 use Rattle.pv_typed.specs.Tables.{nodes}
 use Rattle.pv_typed.specs.NodeTrees.{expression_at, list_at}
 use Rattle.pv_world.specs.Coming.{worth_of}
-use Rattle.pv_eval.specs.Evaluation.{ev, ev_ask}
+use Rattle.pv_eval.specs.Evaluation.{ev_by, ev}
+use Rattle.pv_eval.specs.OfRuns.{ev_ask}
 use Rattle.pv_eval.specs.Moments.{state_of}
 use Rattle.pv_eval.specs.Frames.{arguments_from, asked_with}
 use Rattle.pv_eval.proofs.Cases.{came-given, led-from}
@@ -16,7 +17,7 @@ use Rattle.pv_eval.proofs.LibraryCalls.{child-there, library-more}
 use Rattle.pv_eval.proofs.library.begin_library.Goals as goal
 
 pub returns-then-i-children-clause-led : goal.returns-then-i-children-clause-led
-unfolding ev
+unfolding ev_by
 returns-then-i-children-clause-led c = λ b out es hs hl call fs js.
     let u = c.args.unit.now in
     let xs : Arguments = arguments_in (nodes u) (list_at u c.args.l) in
@@ -26,7 +27,7 @@ returns-then-i-children-clause-led c = λ b out es hs hl call fs js.
     ∙ sym (next-asked b call u c.args.n c.args.line c.len-i.result c.args.f c.args.l c.new-got.result c.children-children.result.now c.children-children.ensures (grind (arith, common_steps)) (open_against fs) s c.requires.form c.requires.line c.if-i-children.true)
 
 pub returns-else-i-children-clause-led : goal.returns-else-i-children-clause-led
-unfolding ev
+unfolding ev_by
 returns-else-i-children-clause-led c = λ b out es hs hl call fs js.
     let u = c.args.unit.now in
     let xs : Arguments = arguments_in (nodes u) (list_at u c.args.l) in

@@ -4,7 +4,7 @@ use Rattle.pv_seq.specs.Sequencing.{sequence_point}
 use Rattle.pv_seq.specs.Rivals.{top}
 use Rattle.pv_typed.specs.Tables.{nodes}
 use Rattle.pv_typed.specs.NodeTrees.{expression_at, list_at}
-use Rattle.pv_eval.specs.Evaluation.{ev}
+use Rattle.pv_eval.specs.Evaluation.{ev_by, ev}
 use Rattle.pv_eval.specs.Moments.{state_of}
 use Rattle.pv_eval.proofs.Cases.{came-given, led-from}
 use Rattle.pv_eval.proofs.LibraryCalls.{next-asked, all-asked}
@@ -16,7 +16,7 @@ pub returns-then-i-children-clause-led : goal.returns-then-i-children-clause-led
 returns-then-i-children-clause-led c = λ b out es hs hl call. sym (next-asked b call c.args.unit.now c.args.n c.args.line c.len-i.result c.args.f c.args.l c.args.got c.children-children.result.now c.children-children.ensures (grind (arith, common_steps)) (top c.args.journal.now) (state_of c.args.moment.now out es) c.requires.form c.requires.line c.if-i-children.true)
 
 pub returns-else-i-children-clause-led : goal.returns-else-i-children-clause-led
-unfolding ev
+unfolding ev_by
 returns-else-i-children-clause-led c = λ b out es hs hl call.
     let u = c.args.unit.now in
     led-from b call u _ _ c.give.result c.sequence_point.new.self _

@@ -7,7 +7,7 @@ use Rattle.pv_typed.specs.Nodes.{arguments_in}
 use Rattle.pv_typed.specs.Tables.{nodes}
 use Rattle.pv_typed.specs.NodeTrees.{expression_at, list_at}
 use Rattle.pv_world.specs.Coming.{worth_of}
-use Rattle.pv_eval.specs.Evaluation.{ev_ask}
+use Rattle.pv_eval.specs.OfRuns.{ev_ask}
 use Rattle.pv_eval.specs.Moments.{state_of}
 use Rattle.pv_eval.specs.Frames.{arguments_from, asked_with}
 use Rattle.pv_eval.proofs.Cases.{came-stops, then-gives, led-from, setting-stays, before-stays}

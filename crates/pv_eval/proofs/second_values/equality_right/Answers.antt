@@ -2,7 +2,7 @@ use Rattle.std.proofs.Common.{subst}
 use Rattle.pv_seq.specs.Rivals.{top}
 use Rattle.pv_eval.specs.Operations.{Equals}
 use Rattle.pv_eval.specs.Ahead.{Led, move_of}
-use Rattle.pv_eval.specs.Sequenced.{work}
+use Rattle.pv_eval.specs.OfRuns.{work}
 use Rattle.pv_world.specs.Coming.{worth_of}
 use Rattle.pv_eval.specs.Moments.{state_of}
 use Rattle.pv_eval.proofs.Cases.{came-given, came-stops, led-then, setting-stays, before-stays}

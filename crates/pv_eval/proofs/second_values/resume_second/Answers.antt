@@ -6,7 +6,7 @@ use Rattle.pv_typed.specs.NodeTrees.{expression_at}
 use Rattle.pv_eval.specs.TypeForms.{element_size}
 use Rattle.pv_eval.specs.Operations.{Subtracts, Moves}
 use Rattle.std.specs.Prelude.{false}
-use Rattle.pv_eval.specs.Sequenced.{work}
+use Rattle.pv_eval.specs.OfRuns.{work}
 use Rattle.pv_world.specs.Coming.{worth_of}
 use Rattle.pv_eval.specs.Moments.{state_of}
 use Rattle.pv_eval.specs.Ahead.{Led, move_of}

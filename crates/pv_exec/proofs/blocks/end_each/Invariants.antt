@@ -1,7 +1,7 @@
 use Rattle.std.proofs.Common.{◌≡◌, ◌-◌}
 use Rattle.std.specs.Prelude.{length, drop}
 use Rattle.pv_eval.specs.Moments.{Always, state_of, Stays}
-use Rattle.pv_exec.specs.Blocks.{end_all}
+use Rattle.pv_exec.specs.OfRuns.{end_all}
 use Rattle.pv_exec.proofs.blocks.end_each.Given as goal
 
 abbrev pub invariant-objects : goal.invariant-objects

@@ -4,7 +4,7 @@ use Rattle.pv_world.specs.Coming.{worth_of}
 use Rattle.pv_eval.specs.Moments.{Moment, Stays, state_of}
 use Rattle.pv_eval.specs.Machines.{Started, after_first}
 use Rattle.pv_eval.specs.MachineSteps.{IsAnswered, Fit}
-use Rattle.pv_exec.specs.Blocks.{end_all}
+use Rattle.pv_exec.specs.OfRuns.{end_all}
 use Rattle.pv_exec.specs.Works.{flow_of}
 use Rattle.pv_exec.proofs.Pieces.{setting-stays, before-stays, stays_both, made-ok}
 use Rattle.pv_exec.proofs.Calling.{call-ends, answered-ended, answered-rest}

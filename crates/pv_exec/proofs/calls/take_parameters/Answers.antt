@@ -5,7 +5,7 @@ use Rattle.pv_typed.specs.TypedUnits.{function_at}
 use Rattle.pv_typed.specs.Tables.{whole_unit}
 use Rattle.pv_world.specs.Coming.{worth_of}
 use Rattle.pv_eval.specs.Moments.{state_of}
-use Rattle.pv_exec.specs.Calls.{take_params}
+use Rattle.pv_exec.specs.OfRuns.{take_params}
 use Rattle.pv_exec.proofs.Pieces.{setting-stays, before-stays, stays_both, made-is}
 use Rattle.pv_exec.proofs.Inits.{dropped-all}
 use Rattle.pv_exec.proofs.Params.{params-more, params-stop, no-arguments, argument-at}

@@ -2,7 +2,7 @@ use Rattle.std.proofs.Common.{◌≡◌, ◌-◌}
 use Rattle.std.specs.Prelude.{length, drop, map}
 use Rattle.pv_world.specs.Coming.{worth_of}
 use Rattle.pv_eval.specs.Moments.{Always, state_of, Stays}
-use Rattle.pv_exec.specs.Calls.{take_params}
+use Rattle.pv_exec.specs.OfRuns.{take_params}
 use Rattle.pv_exec.proofs.calls.take_parameters.Given as goal
 
 abbrev pub invariant-parameters : goal.invariant-parameters

@@ -3,7 +3,8 @@ use Rattle.std.specs.Prelude.{List, map}
 use Rattle.std.proofs.lemmas.List.{take_all}
 use Rattle.pv_watch.specs.Slots.{Told}
 use Rattle.pv_eval.specs.declared.marked.Marked.{Marked}
-use Rattle.pv_exec.specs.Outlets.{hall_slots, event_of}
+use Rattle.pv_watch.specs.Halls.{hall_slots}
+use Rattle.pv_exec.specs.Outlets.{event_of}
 use Rattle.pv_typed.specs.Known.{Each}
 use Rattle.pv_exec.specs.Words.{FitsWords}
 use Rattle.pv_exec.proofs.Outside.{told-next, words-next}

@@ -1,7 +1,8 @@
 use Rattle.std.proofs.Common.{◌-◌, ◌≤◌}
 use Rattle.std.specs.Prelude.{length, take, map}
 use Rattle.pv_watch.specs.Slots.{Told}
-use Rattle.pv_exec.specs.Outlets.{hall_slots, event_of}
+use Rattle.pv_watch.specs.Halls.{hall_slots}
+use Rattle.pv_exec.specs.Outlets.{event_of}
 use Rattle.pv_typed.specs.Known.{Each}
 use Rattle.pv_exec.specs.Words.{FitsWords}
 use Rattle.pv_exec.proofs.delivering.tell.Given as goal

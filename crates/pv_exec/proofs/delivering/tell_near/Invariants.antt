@@ -1,6 +1,6 @@
 use Rattle.std.proofs.Common.{◌-◌}
 use Rattle.std.specs.Prelude.{length}
-use Rattle.pv_exec.specs.Outlets.{hall_slots}
+use Rattle.pv_watch.specs.Halls.{hall_slots}
 use Rattle.pv_exec.specs.Streaming.{FirstTold}
 use Rattle.pv_exec.proofs.delivering.tell_near.Given as goal
 

@@ -2,7 +2,7 @@ use Rattle.std.proofs.Common.{ap, arith, refl}
 use Rattle.pv_eval.specs.Moments.{state_of}
 use Rattle.pv_exec.specs.declared.task.Flow.{Flow}
 use Rattle.pv_exec.specs.declared.task.Flow.TheVariants as flow
-use Rattle.pv_exec.specs.Calls.{below}
+use Rattle.pv_exec.specs.OfRuns.{below}
 use Rattle.std.proofs.Common.{Some}
 use Rattle.pv_typed.specs.Tables.{nodes}
 use Rattle.pv_exec.specs.Read.{do_in}

@@ -2,7 +2,7 @@ use Rattle.std.proofs.Common.{refl, sym, subst, ap, ◌∙◌, arith}
 use Rattle.pv_typed.specs.Tables.{nodes}
 use Rattle.pv_typed.specs.NodeTrees.{expression_at, statement_at}
 use Rattle.pv_eval.specs.Moments.{state_of}
-use Rattle.pv_exec.specs.Calls.{below}
+use Rattle.pv_exec.specs.OfRuns.{below}
 use Rattle.pv_exec.specs.declared.task.Flow.TheVariants as flow
 use Rattle.pv_typed.specs.Nodes.{optional_in}
 use Rattle.pv_typed.specs.TypedStatement.{For, Return}

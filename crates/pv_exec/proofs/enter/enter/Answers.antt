@@ -1,7 +1,7 @@
 use Rattle.std.proofs.Common.{List, length, sym, subst, ap, ◌∙◌, ◌+◌, ◌≡◌, arith}
 use Rattle.pv_typed.specs.NodeTrees.{statement_at}
 use Rattle.pv_eval.specs.Moments.{Moment, IsSetting, Follows, state_of}
-use Rattle.pv_exec.specs.Calls.{below}
+use Rattle.pv_exec.specs.OfRuns.{below}
 use Rattle.pv_eval.specs.Machines.{Started}
 use Rattle.pv_exec.specs.Tasks.{left_flow}
 use Rattle.pv_exec.specs.Leading.{LeadsOr}

@@ -1,6 +1,6 @@
 use Rattle.std.proofs.Common.{◌≡◌}
 use Rattle.pv_eval.specs.States.{Setting, State}
-use Rattle.pv_exec.specs.Execution.{ex}
+use Rattle.pv_exec.specs.OfRuns.{ex}
 use Rattle.pv_exec.specs.Flows.{Below}
 use Rattle.pv_typed.specs.NodeTrees.{statement_at, IsStatement}
 use Rattle.pv_exec.proofs.enter.unlabelled.Given as goal

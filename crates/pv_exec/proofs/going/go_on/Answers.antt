@@ -2,7 +2,7 @@ use Rattle.std.proofs.Common.{length, ◌∙◌, sym, subst, arith, Ok}
 use Rattle.pv_eval.specs.Machines.{left_of}
 use Rattle.pv_eval.specs.MachineSteps.{Stepped, WentTo}
 use Rattle.pv_eval.specs.Moments.{IsSetting, state_of}
-use Rattle.pv_exec.specs.Calls.{below}
+use Rattle.pv_exec.specs.OfRuns.{below}
 use Rattle.pv_eval.specs.declared.frames.Step.{Step}
 use Rattle.pv_exec.specs.declared.task.Doing.TheVariants as doing
 use Rattle.pv_exec.proofs.Works.{due-two}

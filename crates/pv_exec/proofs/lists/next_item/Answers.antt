@@ -5,7 +5,7 @@ use Rattle.pv_typed.specs.TypedUnits.{WholeUnit, object_at}
 use Rattle.pv_typed.specs.Tables.{nodes, whole_unit, store_in}
 use Rattle.pv_typed.specs.NodeTrees.{list_at}
 use Rattle.pv_eval.specs.Moments.{state_of}
-use Rattle.pv_exec.specs.Flows.{begin_fill}
+use Rattle.pv_exec.specs.OfRuns.{begin_fill}
 use Rattle.pv_exec.proofs.Pieces.{setting-stays, before-stays, made-ok, stays_both}
 use Rattle.pv_exec.proofs.Elements.{item-at, items-end, mapped-none}
 use Rattle.pv_exec.proofs.Listing.{list-end, list-plain, list-declared, list-passed}

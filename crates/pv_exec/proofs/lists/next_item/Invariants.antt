@@ -1,7 +1,7 @@
 use Rattle.std.proofs.Common.{◌≡◌, ◌-◌, length}
 use Rattle.pv_eval.specs.Moments.{Always, state_of, Stays}
 use Rattle.pv_exec.specs.Flows.{Below}
-use Rattle.pv_exec.specs.Execution.{exs}
+use Rattle.pv_exec.specs.OfRuns.{exs}
 use Rattle.pv_exec.specs.Tasks.{statements_from}
 use Rattle.pv_exec.proofs.lists.next_item.Given as goal
 

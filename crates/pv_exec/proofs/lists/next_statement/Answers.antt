@@ -3,10 +3,9 @@ use Rattle.pv_eval.specs.Moments.{state_of}
 use Rattle.pv_exec.specs.declared.lists.Item.{Item}
 use Rattle.pv_exec.specs.declared.task.Flow.TheVariants as flow
 use Rattle.pv_exec.specs.declared.task.Doing.TheVariants as doing
-use Rattle.pv_exec.specs.Execution.{exs}
+use Rattle.pv_exec.specs.OfRuns.{exs, below}
 use Rattle.pv_exec.specs.Tasks.{statements_from}
 use Rattle.pv_exec.specs.Items.{item_does}
-use Rattle.pv_exec.specs.Calls.{below}
 use Rattle.pv_exec.specs.Works.{does}
 use Rattle.pv_exec.proofs.Leaving.{leaves-at}
 use Rattle.pv_exec.proofs.Listing.{end-leads, statement-leads, stores-lead}

@@ -5,7 +5,7 @@ use Rattle.pv_eval.specs.States.{Res, then_do}
 use Rattle.pv_eval.specs.Moments.{state_of}
 use Rattle.pv_eval.specs.Operations.{Makes, Fills, act}
 use Rattle.pv_eval.specs.Moments.{Made}
-use Rattle.pv_exec.specs.Preparing.{make_static}
+use Rattle.pv_exec.specs.OfRuns.{make_static}
 use Rattle.std.specs.Prelude.{Some}
 use Rattle.pv_exec.proofs.Pieces.{setting-stays, before-stays, made-is, made-stops, stays_both}
 use Rattle.pv_exec.proofs.preparing.make_static.Goals as goal

@@ -3,7 +3,7 @@ use Rattle.std.specs.Prelude.{slice_index, drop}
 use Rattle.std.proofs.lemmas.List.{drop_more}
 use Rattle.pv_typed.specs.TypedUnits.{WholeUnit}
 use Rattle.pv_eval.specs.Moments.{state_of}
-use Rattle.pv_exec.specs.Preparing.{make_static}
+use Rattle.pv_exec.specs.OfRuns.{make_static}
 use Rattle.pv_exec.specs.Lists.{make_statics}
 use Rattle.pv_exec.proofs.Pieces.{setting-stays, before-stays, made-is, stays_both}
 use Rattle.pv_exec.proofs.Inits.{dropped-all}

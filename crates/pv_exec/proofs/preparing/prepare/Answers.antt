@@ -1,5 +1,5 @@
 use Rattle.pv_eval.specs.Moments.{state_of}
-use Rattle.pv_exec.specs.Preparing.{prepare}
+use Rattle.pv_exec.specs.OfRuns.{prepare}
 use Rattle.pv_exec.specs.Lists.{initialize_statics}
 use Rattle.pv_exec.proofs.Pieces.{setting-stays, before-stays, made-is, stays_both}
 use Rattle.pv_exec.proofs.Readying.{prepare-after, prepare-stops, prepare-stops-later, prepare-stops-last}

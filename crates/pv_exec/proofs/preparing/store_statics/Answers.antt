@@ -4,7 +4,7 @@ use Rattle.pv_typed.specs.TypedUnits.{Store, WholeUnit, object_at}
 use Rattle.pv_typed.specs.Tables.{nodes, whole_unit, store_in}
 use Rattle.pv_eval.specs.States.{State}
 use Rattle.pv_eval.specs.Moments.{state_of}
-use Rattle.pv_exec.specs.Preparing.{store_static}
+use Rattle.pv_exec.specs.OfRuns.{store_static}
 use Rattle.pv_exec.specs.Lists.{store_statics}
 use Rattle.pv_exec.proofs.Pieces.{setting-stays, before-stays, made-is, stays_both}
 use Rattle.pv_exec.proofs.Inits.{dropped-all, mapped-length}

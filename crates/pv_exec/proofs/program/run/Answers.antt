@@ -67,8 +67,8 @@ returns-in-Some-outcome_by-clause-told g c =
     let z = outlet (g.O.Sink.written c.answer.new.out) c.answer.new.hall (λ z. (goal.Watch-dyn g z).its_kind z.1) (λ z. (goal.Watch-dyn g z).its_wants z.1) (λ z. (goal.Watch-dyn g z).seen z.1) in
     told-end R o m.moment led.bytes led.events u.names c.answer.result a q z v (streams-over x o a q u.names led.bytes led.events (sym c.in-Some-outcome_by.ensures) led.streams) c.answer.ensures.part c.answer.ensures.told
 
-pub returns-clause-part : goal.returns-clause-part
-returns-clause-part g c =
+pub returns-in-None-outcome_by-clause-part : goal.returns-in-None-outcome_by-clause-part
+returns-in-None-outcome_by-clause-part g c =
     let u = c.args.u.now in
     let hs = highs c.args.sides (λ x. x.now) in
     let R = run_of (setting_of u c.args.bound hs c.args.zap) c.args.script in
@@ -78,8 +78,8 @@ returns-clause-part g c =
     let e = run-over u c.args.bound hs c.args.zap c.args.script c.in-Ok.machine m x (c.in-Ok.ensures.value ∙ ap (λ hs. first_machine c.args.script hs c.args.zap) c.in-Some.ensures) led in
     lost-part R x m.moment led.bytes led.events u.names (outlet (g.O.Sink.written c.args.out.now) c.args.hall.now (λ z. (goal.Watch-dyn g z).its_kind z.1) (λ z. (goal.Watch-dyn g z).its_wants z.1) (λ z. (goal.Watch-dyn g z).seen z.1)) (outlet (g.O.Sink.written c.run_unit-ended.new.out) c.run_unit-ended.new.hall (λ z. (goal.Watch-dyn g z).its_kind z.1) (λ z. (goal.Watch-dyn g z).its_wants z.1) (λ z. (goal.Watch-dyn g z).seen z.1)) e led.streams
 
-pub returns-clause-told : goal.returns-clause-told
-returns-clause-told g c =
+pub returns-in-None-outcome_by-clause-told : goal.returns-in-None-outcome_by-clause-told
+returns-in-None-outcome_by-clause-told g c =
     let u = c.args.u.now in
     let hs = highs c.args.sides (λ x. x.now) in
     let R = run_of (setting_of u c.args.bound hs c.args.zap) c.args.script in
@@ -130,8 +130,8 @@ returns-in-Some-outcome_by-clause-streams g c =
     let z = outlet (g.O.Sink.written c.answer.new.out) c.answer.new.hall (λ z. (goal.Watch-dyn g z).its_kind z.1) (λ z. (goal.Watch-dyn g z).its_wants z.1) (λ z. (goal.Watch-dyn g z).seen z.1) in
     streamed-end R o m.moment led.bytes led.events u.names c.answer.result stage a q z v s (streams-over x o a q u.names led.bytes led.events is led.streams) c.answer.ensures.part c.answer.ensures.told
 
-pub returns-clause-streams : goal.returns-clause-streams
-returns-clause-streams g c =
+pub returns-in-None-outcome_by-clause-streams : goal.returns-in-None-outcome_by-clause-streams
+returns-in-None-outcome_by-clause-streams g c =
     let u = c.args.u.now in
     let hs = highs c.args.sides (λ x. x.now) in
     let R = run_of (setting_of u c.args.bound hs c.args.zap) c.args.script in

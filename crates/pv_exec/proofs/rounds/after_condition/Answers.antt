@@ -3,7 +3,7 @@ use Rattle.std.specs.Prelude.{Bool}
 use Rattle.pv_eval.specs.Machines.{ended_value, after_first, Started}
 use Rattle.pv_eval.specs.Moments.{Tested, state_of}
 use Rattle.pv_eval.specs.Operations.{Tests, act}
-use Rattle.pv_exec.specs.Calls.{below}
+use Rattle.pv_exec.specs.OfRuns.{below}
 use Rattle.pv_typed.specs.NodeTrees.{statement_at}
 use Rattle.pv_exec.specs.declared.task.Task.TheVariants as task
 use Rattle.pv_exec.specs.declared.task.Doing.TheVariants as doing

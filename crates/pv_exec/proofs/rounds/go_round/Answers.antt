@@ -3,7 +3,7 @@ use Rattle.pv_typed.specs.NodeTrees.{statement_at}
 use Rattle.pv_exec.specs.declared.parts.RoundParts.{RoundParts}
 use Rattle.pv_exec.specs.declared.task.Doing.{Doing}
 use Rattle.pv_exec.specs.declared.task.Way.TheVariants as way
-use Rattle.pv_exec.specs.Calls.{below}
+use Rattle.pv_exec.specs.OfRuns.{below}
 use Rattle.pv_exec.specs.Parts.{Loop, loop_of, stepped_on}
 use Rattle.pv_exec.specs.Tasks.{left_flow}
 use Rattle.pv_exec.specs.Leading.{Leads}

@@ -4,7 +4,7 @@ use Rattle.pv_world.specs.Worlds.{Worth}
 use Rattle.pv_eval.specs.States.{Res, Gives, then_do}
 use Rattle.pv_eval.specs.Operations.{EndsBody, act}
 use Rattle.pv_eval.specs.Moments.{state_of}
-use Rattle.pv_exec.specs.Blocks.{end_all}
+use Rattle.pv_exec.specs.OfRuns.{end_all}
 use Rattle.pv_exec.specs.Calls.{value_by}
 use Rattle.pv_exec.specs.Works.{flow_of}
 use Rattle.pv_exec.proofs.Pieces.{setting-stays, before-stays, made-ok}

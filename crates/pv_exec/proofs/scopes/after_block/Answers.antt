@@ -3,7 +3,7 @@ use Rattle.pv_typed.specs.Trees.{declared_of}
 use Rattle.pv_typed.specs.NodeTrees.{statement_at}
 use Rattle.pv_eval.specs.Moments.{state_of}
 use Rattle.pv_eval.specs.States.{Gives, then_do}
-use Rattle.pv_exec.specs.Blocks.{end_all}
+use Rattle.pv_exec.specs.OfRuns.{end_all}
 use Rattle.pv_exec.specs.declared.task.Doing.TheVariants as doing
 use Rattle.pv_exec.specs.declared.task.Way.TheVariants as way
 use Rattle.pv_exec.specs.Works.{flow_of}

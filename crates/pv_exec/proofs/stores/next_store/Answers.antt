@@ -5,7 +5,7 @@ use Rattle.pv_typed.specs.Tables.{nodes, whole_unit, store_in}
 use Rattle.pv_eval.specs.States.{Gives, then_do}
 use Rattle.pv_exec.specs.Flows.{Falls}
 use Rattle.pv_exec.specs.Lists.{store_all}
-use Rattle.pv_exec.specs.Calls.{below}
+use Rattle.pv_exec.specs.OfRuns.{below}
 use Rattle.pv_exec.specs.Tasks.{left_flow}
 use Rattle.pv_exec.specs.Works.{does}
 use Rattle.pv_exec.proofs.Inits.{mapped-length, dropped-all}

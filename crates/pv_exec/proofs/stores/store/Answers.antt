@@ -10,8 +10,7 @@ use Rattle.pv_eval.specs.TypeForms.{size_of}
 use Rattle.pv_eval.specs.Operations.{PutsText, act}
 use Rattle.pv_exec.specs.declared.task.Doing.TheVariants as doing
 use Rattle.pv_exec.specs.declared.task.Task.TheVariants as task
-use Rattle.pv_exec.specs.Flows.{full_expression}
-use Rattle.pv_exec.specs.Calls.{below}
+use Rattle.pv_exec.specs.OfRuns.{full_expression, below}
 use Rattle.pv_exec.specs.Tasks.{after_value}
 use Rattle.pv_exec.specs.Works.{does}
 use Rattle.pv_exec.proofs.Storing.{store-value, store-text, text-stops, goes-to}

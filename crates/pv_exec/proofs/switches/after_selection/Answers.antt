@@ -3,7 +3,7 @@ use Rattle.std.proofs.Common.{List, subst, arith, rules}
 use Rattle.std.specs.Prelude.{ℤ}
 use Rattle.std.proofs.lemmas.Int.{to_z-of_z}
 use Rattle.pv_eval.specs.Machines.{Started}
-use Rattle.pv_exec.specs.Calls.{below}
+use Rattle.pv_exec.specs.OfRuns.{below}
 use Rattle.pv_exec.specs.Parts.{jumps}
 use Rattle.pv_exec.specs.Tasks.{left_flow}
 use Rattle.pv_exec.specs.Leading.{Leads}

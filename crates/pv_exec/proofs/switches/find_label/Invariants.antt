@@ -1,7 +1,7 @@
 use Rattle.std.proofs.Common.{◌≡◌, ◌-◌, ◌≤◌, length}
 use Rattle.pv_eval.specs.States.{Setting, State}
 use Rattle.pv_exec.specs.Flows.{Below}
-use Rattle.pv_exec.specs.Execution.{exs_at}
+use Rattle.pv_exec.specs.OfRuns.{exs_at}
 use Rattle.pv_exec.specs.Switches.{target, some_target}
 use Rattle.pv_exec.specs.Tasks.{statements_from}
 use Rattle.pv_exec.proofs.switches.find_label.Given as goal

@@ -1,6 +1,6 @@
 use Rattle.std.proofs.Common.{ap, sym, ◌∙◌}
 use Rattle.pv_watch.specs.Lines.{first_told}
-use Rattle.pv_explain.specs.Texts.{suspects_of}
+use Rattle.pv_watch.specs.Kinds.{suspects_of}
 use Rattle.pv_explain.proofs.Walks.{told_here, told_not, told_at_end, no_suspects}
 use Rattle.pv_explain.proofs.explain.suspected.Goals as goal
 

@@ -11,7 +11,7 @@ returns-in-Ok g c = record {
   part = λ source script is. tt;
   cause = tt;
   late = λ source script is. late_program source script _ _ _ _ _ _ _ _ _ _ is c.in-Ok.ensures.ran c.in-Ok.ensures.late;
-  sooner = λ source script is. sooner_program source script _ _ _ _ _ _ is c.in-Ok.ensures.sooner;
+  sooner = λ source script is. sooner_program source script _ _ _ _ _ c.in-Ok.named.ran is c.in-Ok.ensures.sooner;
   streams = λ source script is. tt;
 }
 

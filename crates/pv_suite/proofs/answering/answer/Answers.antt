@@ -16,7 +16,7 @@ returns-in-Ok-clause-reply g c =
 
 pub returns-in-Ok-clause-cause : goal.returns-in-Ok-clause-cause
 returns-in-Ok-clause-cause g c = λ h.
-    cases_rose (cases_of c.args.list.now) (map case_view c.in-Ok.cases.items) _ _ c.in-Ok.ensures.cases (rw c.as_slice.ensures.value at (c.answer_cases.ensures.cause h))
+    cases_rose (cases_of c.args.list.now) (map case_view c.in-Ok.cases.items) (g.F.Files.held c.args.files.now) _ _ c.in-Ok.ensures.cases (rw c.as_slice.ensures.value at (c.answer_cases.ensures.cause h))
 
 pub returns-in-Err-clause-reply : goal.returns-in-Err-clause-reply
 returns-in-Err-clause-reply g c =

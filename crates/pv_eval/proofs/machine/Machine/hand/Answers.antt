@@ -1,7 +1,7 @@
 use Rattle.std.proofs.Common.{ap, ◌∙◌}
 use Rattle.pv_typed.specs.NodeTrees.{expression_at}
 use Rattle.pv_eval.specs.States.{then_do}
-use Rattle.pv_eval.specs.Steps.{with_conversion}
+use Rattle.pv_eval.specs.OfRuns.{with_conversion}
 use Rattle.pv_eval.specs.Operations.{Accepts, act}
 use Rattle.pv_eval.proofs.Machining.{came-over}
 use Rattle.pv_eval.proofs.machine.Machine.hand.Goals as goal

@@ -2,7 +2,7 @@ use Rattle.std.proofs.Common.{ap, ◌∙◌}
 use Rattle.pv_typed.specs.TypedTree.{line_of}
 use Rattle.pv_typed.specs.NodeTrees.{expression_at}
 use Rattle.pv_eval.specs.States.{then_do}
-use Rattle.pv_eval.specs.Steps.{with_conversion}
+use Rattle.pv_eval.specs.OfRuns.{with_conversion}
 use Rattle.pv_eval.specs.Operations.{Needs, act}
 use Rattle.pv_eval.proofs.Machining.{needed-over}
 use Rattle.pv_eval.proofs.machine.Machine.need.Goals as goal

@@ -8,7 +8,8 @@ use Rattle.pv_fault.specs.declared.verdict.Verdict.TheVariants.{Undecided}
 use Rattle.std.specs.Fmt.{decimal}
 use Rattle.pv_print.specs.Texts.{address_text}
 use Rattle.pv_watch.specs.Lines.{line}
-use Rattle.pv_explain.specs.Texts.{story_kind, census_kind, pointers_kind}
+use Rattle.pv_watch.specs.Seen.{Kind}
+use Rattle.pv_watch.specs.Kinds.{story_kind, census_kind, pointers_kind, journal_kind, kind_meant}
 
 abbrev event : ℕ → What → Event
 event turn what = record { turn = turn; what = what }
@@ -94,3 +95,14 @@ none_counted = refl
 
 none_followed : pointers_kind.text 100 none_seen texts ≡ (([]) ++ [])
 none_followed = refl
+
+-- ---- what a watcher brings of its own counts for other numbers alone
+
+abbrev stranger : ℕ → Kind
+stranger number = record { number = number; text = λ wants seen names. codes "a stranger" }
+
+strangers_with_a_given_number : (kind_meant (stranger 1) ≡ story_kind) × (kind_meant (stranger 2) ≡ census_kind) × (kind_meant (stranger 3) ≡ pointers_kind) × (kind_meant (stranger 4) ≡ journal_kind)
+strangers_with_a_given_number = (refl, refl, refl, refl)
+
+strangers_with_another : (kind_meant (stranger 0) ≡ stranger 0) × (kind_meant (stranger 5) ≡ stranger 5) × (kind_meant (stranger 9) ≡ stranger 9)
+strangers_with_another = (refl, refl, refl)

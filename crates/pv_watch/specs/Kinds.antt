@@ -1,5 +1,5 @@
 -- The texts of the kinds of watchers.
-use Rattle.std.specs.Prelude.{ℕ, Bool, true, false, List, [], ◌∷◌, ◌++◌, length, codes, if◌then◌else◌, ◌==◌, ◌||◌, Option, Some, None}
+use Rattle.std.specs.Prelude.{◌≡◌, ℕ, Bool, true, false, List, [], ◌∷◌, ◌++◌, length, codes, if◌then◌else◌, ◌==◌, ◌||◌, Option, Some, None}
 use Rattle.std.specs.List.{filter}
 use Rattle.std.specs.Fmt.{decimal}
 use Rattle.std.specs.Option.{option_map_or}
@@ -123,3 +123,13 @@ pointers_kind = record { number = 3; text = λ wants seen names. pointers_text s
 -- the memory model: kind 4 keeps a journal (docs/FORMATS.md, Journals)
 abbrev pub journal_kind : Kind
 journal_kind = record { number = 4; text = λ wants seen names. journal_text seen names }
+
+-- the kind that a watcher of a number is, whatever it brings itself: of the numbers 1 to 4 the one above (docs/FORMATS.md, What watchers say; memory model)
+-- worked: strangers_with_a_given_number, strangers_with_another
+abbrev pub kind_meant : Kind → Kind
+kind_meant kind =
+    if kind.number == 1 then story_kind else if kind.number == 2 then census_kind else if kind.number == 3 then pointers_kind else if kind.number == 4 then journal_kind else kind
+
+-- a watcher's text: of the numbers 1 to 4 what is specified above, of any other what its kind says (docs/FORMATS.md, What watchers say; memory model)
+abbrev pub IsText : Kind → (wants : ℕ) → List Event → List (List ℕ) → List ℕ → Type 0
+IsText kind wants seen names text = text ≡ (kind_meant kind).text wants seen names

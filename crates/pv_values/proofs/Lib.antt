@@ -1,0 +1,4 @@
+pub mod Adding
+pub mod Written
+pub mod Shaped
+mod Examples

@@ -1,0 +1,32 @@
+use Rattle.std.proofs.Common.{◌≡◌, ◌∙◌, IsTrue, is_some, nat_lt, ap, arith, length}
+use Rattle.pv_types.specs.Known.{env}
+use Rattle.pv_types.specs.Formed.{members_in, IsBuilt}
+use Rattle.pv_types.specs.Layouts.{look}
+use Rattle.pv_types.proofs.Made.{flag}
+use Rattle.pv_layout.proofs.Ahead.{ahead_start}
+use Rattle.pv_values.proofs.Shaped.{some_true, struct_some, struct_parts_within}
+use Rattle.pv_values.proofs.shapes.struct_shape.Goals as goal
+
+pub struct_parts-requires-clause-structure : goal.struct_parts-requires-clause-structure
+struct_parts-requires-clause-structure c =
+    let m = c.args.u.now.known in
+    let built : IsBuilt m = rw (← c.types-types.ensures) c.members-count.ensures.built in
+    let there : is_some (look (env m) c.args.tag) ≡ nat_lt 0 (length c.members-count.result.now) = rw c.types-types.ensures at c.members-count.ensures.complete in
+    flag m c.args.tag built (some_true _ (length c.members-count.result.now) there (omega arith)) ∙ c.requires.structure
+
+pub returns-clause-shape : goal.returns-clause-shape
+returns-clause-shape c =
+    let m = c.args.u.now.known in
+    let there : is_some (look (env m) c.args.tag) ≡ nat_lt 0 (length c.members-count.result.now) = rw c.types-types.ensures at c.members-count.ensures.complete in
+    let items : c.members-count.result.now ≡ members_in m.done c.args.tag = rw c.types-types.ensures at c.members-count.ensures.value in
+    struct_some c.args.u.now c.args.tag (length c.members-count.result.now) c.braced.result c.in_ok-parts.parts c.braced.ensures c.in_ok-parts.ensures (ap length items) there (omega arith)
+
+pub returns-clause-parts : goal.returns-clause-parts
+returns-clause-parts c =
+    let m = c.args.u.now.known in
+    let built : IsBuilt m = rw (← c.types-types.ensures) c.members-count.ensures.built in
+    let there : is_some (look (env m) c.args.tag) ≡ nat_lt 0 (length c.members-count.result.now) = rw c.types-types.ensures at c.members-count.ensures.complete in
+    let complete : IsTrue (is_some (look (env m) c.args.tag)) = some_true _ (length c.members-count.result.now) there (omega arith) in
+    rw c.braced.ensures
+    (struct_parts_within m c.args.tag c.in_ok-parts.parts.items
+    (ahead_start m c.args.tag built complete (flag m c.args.tag built complete ∙ c.requires.structure) (c.requires.small c.args.tag)) c.in_ok-parts.ensures)
