@@ -108,7 +108,7 @@ def take_source(name: str, room: str, is_lowered: bool = False) -> Source:
         return Source(held, name, False)
     given = name if os.path.isfile(name) else "-"
     with open(held, "rb") as file:
-        if subprocess.run([f"{HERE}/preprocess", given, text, *(["--lower"] * is_lowered)], stdin=file).returncode:
+        if subprocess.run([f"{HERE}/preprocess", given, text, "--marks", *(["--lower"] * is_lowered)], stdin=file).returncode:
             raise Fault(f"'{shown(name)}' could not be preprocessed")
     return Source(text, name, True)
 

@@ -73,9 +73,20 @@ def source_line(text: bytes, number: int, is_told: bool) -> str:
 def output_part(answer: Answer) -> str:
     if answer.status not in RUN_STATUSES or answer.asked.mode not in ("run", "settle"):
         return ""
-    text = tag("pre", escaped(answer.output), tabindex=0) if answer.output else note("nothing")
+    text = tag("pre", *output_pieces(answer), tabindex=0) if answer.output else note("nothing")
+    apart = note("What was written to stderr is underlined.") if answer.errors else ""
     more = note(f"{counted(answer.dropped, 'byte')} more were left out.") if answer.dropped else ""
-    return section("Output", text, more, class_="part-output")
+    return section("Output", text, apart, more, class_="part-output")
+
+
+def output_pieces(answer: Answer) -> list[str]:
+    """The output, with what was written to stderr told apart."""
+    pieces, at = [], 0
+    for begins, ends in answer.errors:
+        pieces.append(escaped(answer.output[at:begins]))
+        pieces.append(tag("span", escaped(answer.output[begins:ends]), class_="stderr", title="to stderr"))
+        at = ends
+    return [*pieces, escaped(answer.output[at:])]
 
 
 def script_part(answer: Answer) -> str:

@@ -43,6 +43,7 @@ class Answer:
     status: int
     report: str
     output: bytes = b""
+    errors: list[tuple[int, int]] = field(default_factory=list)  # which of its bytes were written to stderr, from and to
     dropped: int = 0  # bytes of output that were not kept
     story: str = ""
     census: str = ""
@@ -75,6 +76,26 @@ class Programs:
         self.has_checks = has_checks(self.pvrun)
 
 
+def mark_of(text: bytes) -> Optional[bytes]:
+    """The digits of the marks that stand round what the text writes to stderr, if it writes to it by name."""
+    found = re.search(rb'\\033_([0-9a-f]{16})["12%]', text)
+    return found[1] if found and b"__letter(" in text else None
+
+
+def parted(output: bytes, mark: bytes, is_cut: bool) -> tuple[bytes, list[tuple[int, int]]]:
+    """The output without its marks, and which of its bytes were written to stderr. Where it is cut, so may its last mark be."""
+    pieces = re.split(rb"\033_%s([12])\033\\" % mark, output)
+    begun = re.search(rb"\033(_[0-9a-f]{0,16}([12]\033?)?)?\Z", pieces[-1]) if is_cut else None
+    if begun and (b"\033_" + mark).startswith(begun[0][:18]):
+        pieces[-1] = pieces[-1][:begun.start()]
+    text, errors = pieces[0], []
+    for stream, piece in zip(pieces[1::2], pieces[2::2]):
+        if stream == b"2" and piece:
+            errors.append((len(text), len(text) + len(piece)))
+        text += piece
+    return text, errors
+
+
 class Question:
     """One source that is asked about. With `is_shut` it reads no other files than the headers that come with the launcher."""
 
@@ -83,6 +104,7 @@ class Question:
         self.source = self.text = os.path.join(caller.room, os.path.basename(asked.name) if is_shut else "source.c")
         self.script = os.path.join(caller.room, "script")
         self.is_preprocessed = False
+        self.mark: Optional[bytes] = None
 
     def write_files(self) -> None:
         """Puts source and script into the room, and the text that the program gets."""
@@ -113,7 +135,7 @@ class Question:
         if self.is_shut and reads_bytes(source):
             raise Fault("of files the headers of include/ alone may be read here, and embed reads others")
         given = self.asked.name if os.path.isfile(os.path.join(self.caller.folder, self.asked.name)) else self.source
-        status, said = self.caller.call([f"{HERE}/preprocess", given, text, *(["--lower"] * self.asked.is_lowered)], of="stderr")
+        status, said = self.caller.call([f"{HERE}/preprocess", given, text, "--marks", *(["--lower"] * self.asked.is_lowered)], of="stderr")
         messages = bytes(said.bytes).decode("utf-8", "replace")
         if self.asked.is_lowered and not status:
             sys.stderr.write(messages)
@@ -123,7 +145,7 @@ class Question:
             made = file.read(LONGEST_FILE)
         if self.is_shut and (others := files_of(made) - self.own_files(given)):
             raise Fault(f"of files the headers of include/ alone may be read here, and not {', '.join(sorted(others))}")
-        self.text = text
+        self.text, self.mark = text, mark_of(made)
 
     def own_files(self, given: str) -> set[str]:
         """The names that may stand in the line markers of the text: the source's, and those of the headers."""
@@ -162,6 +184,8 @@ class Question:
         output, behind = written[:found[-1].start()], written[found[-1].end():]
         answer = Answer(self.asked, status, found[-1][1].decode(), output[:LONGEST_OUTPUT])
         answer.dropped = len(output) - len(answer.output) + kept.dropped
+        if self.mark:
+            answer.output, answer.errors = parted(answer.output, self.mark, answer.dropped > 0)
         if self.asked.mode == "settle":
             answer.sides = behind.decode().removeprefix("sides ").strip()
         elif census := CENSUS.search(behind):

@@ -144,6 +144,11 @@ def try_texts(tests: Tests) -> None:
         kept.add(bytes([byte]))
     kept.drop()
     tests.same("the first and the last bytes", (b"012cdef", 9), (bytes(kept.bytes), kept.dropped))
+    mark = b"0123456789abcdef"
+    two = b"a\033_%s2\033\\b\033_%s1\033\\c\033" % (mark, mark)
+    tests.same("two streams", (b"abc\033", [(1, 2)]), parted(two, mark, False))
+    tests.same("two streams, cut within a mark", (b"abc", [(1, 2)]), parted(two + b"_0123", mark, True))
+    tests.same("cut within what is no mark", (b"abc\033_0124", [(1, 2)]), parted(two + b"_0124", mark, True))
 
 
 def try_script_words(tests: Tests) -> None:
@@ -295,6 +300,9 @@ def try_hostile(tests: Tests) -> None:
         tests.same(f"{what}: its text", shown(source).rstrip("\n"), source_text(shape))
     prints = 'int printf(const char *, ...);\nint main(void) { printf("</pre><script>1</script>%c", 0); return 0; }\n'
     path = tests.file("prints.c", prints)
+    shape = Shape(tests.page(f"{HERE}/front-programs/two_streams.c"))
+    tests.same("what goes to stderr", shown(read(f"{HERE}/front-programs/two_streams.stderr")), shape.texts.get("stderr"))
+    tests.holds("what goes to stderr: said", "written to stderr is underlined" in shape.texts.get("part part-output", ""))
     tests.holds("a hostile output", "</pre><script>1</script>\u2400" in Shape(tests.page(path)).texts.get("part part-output", ""))
     script = tests.file("hostile.script", b"x 1 0x20000\n</td><script>\xff\n")
     shape = Shape(tests.page(tests.file("plain.c", "int x; int main(void) { return x; }\n"), "--script", script))

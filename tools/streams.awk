@@ -1,7 +1,7 @@
 # od -An -v -tx1 | awk -f tools/streams.awk: a program's output, as bytes in hexadecimal, in two streams: what stands between marks goes to the stream that they
 # name, and all else to standard output; the marks go nowhere. A mark is ESC _ H S ESC \ with the digits H of ENVIRON MARK and the stream S, 1 or 2; one of
 # stream 1 ends a piece. Bytes are handed on as they come, and never more than a mark's length of them is kept. Ends with 3 where marks don't
-# come in pairs: then the program wrote one of its own.
+# come in pairs: then the program wrote one of its own; and with 4 more where what went to stream 2 lacks its last line feed.
 BEGIN {
   for (i = 0; i < 256; i++) byte[sprintf("%02x", i)] = sprintf("%c", i)
   has_null = length(byte["00"]) == 1
@@ -13,14 +13,23 @@ BEGIN {
 }
 
 function flush() {
-  if (out != "") printf "%s", out >stream
+  if (out != "") {
+    printf "%s", out >stream
+    note(substr(out, length(out)) != "\n")
+  }
   out = ""
+}
+
+# Whether what goes to stream 2 is within a line now.
+function note(is_within) {
+  if (stream == "/dev/stderr") is_within_line = is_within
 }
 
 function emit(code) {
   if (code == "00" && !has_null) {
     flush()
     printf "%c", 0 >stream
+    note(1)
   } else {
     out = out byte[code]
   }
@@ -69,5 +78,5 @@ END {
   give_up()
   flush()
   fflush(stream)
-  if (!is_whole || is_open) exit 3
+  exit (!is_whole || is_open ? 3 : 0) + (is_within_line ? 4 : 0)
 }

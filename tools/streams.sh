@@ -1,6 +1,6 @@
 # For ./pvrun: what a program writes to stderr by name goes to standard error, or to the file of --stderr. The headers put such a piece between marks
 # (include/pv_error.h), and tools/streams.awk takes them out.
-# shellcheck shell=bash disable=SC2154  # (variables of pvrun)
+# shellcheck shell=bash disable=SC2034,SC2154  # (variables of pvrun)
 
 # The digits of the marks of the text, in `mark`; nothing where it has none.
 find_mark() {
@@ -17,13 +17,16 @@ split_streams() {
   od -An -v -tx1 2>/dev/null | MARK=$mark LC_ALL=C awk -f "$tools/streams.awk"
 }
 
-# What is said of a splitting that ended so.
+# What is said of a splitting that ended so; and words that follow begin a line, where the program's standard error lacks its last line feed.
 judge_splitting() {
+  case $1 in 4 | 7) [ -n "$errors" ] || within_line=yes ;; esac
   case $1 in
-    0) ;;
-    3)
-      [ "$status" -gt 9 ] ||
+    0 | 4) ;;
+    3 | 7)
+      [ "$status" -gt 9 ] || {
+        begin_line
         say 'the program wrote a mark of its own, so what it wrote to standard output and to standard error may not be told apart rightly'
+      }
       ;;
     *) say 'the output could not be written' && status=12 ;;
   esac
