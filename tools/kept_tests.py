@@ -1,5 +1,5 @@
-"""The self-test of tools/kept: a small repository is proved by `rt ci` and asked for by the launcher, and the other way round. It wants the kit, and
-takes two or three minutes. What it leaves beside the kit it removes again."""
+"""The self-test of tools/kept: a small repository is proved by `rt ci` and asked for by the launcher; what tools/prove proves is kept for no gate. It wants
+the kit, and takes two or three minutes. What `rt ci` leaves beside the kit it removes again."""
 import os
 import random
 import shutil
@@ -8,7 +8,8 @@ import tempfile
 import time
 
 HERE = os.path.dirname(os.path.realpath(__file__))
-TOOLS = "attend.sh build-library directives.awk files.sh first-proof.sh help.txt kept lines.awk meaning.sh prove room rooms.sh sources.sh unproved words.sh".split()
+# The parts of the launcher, and what proves.
+TOOLS = [name for name in os.listdir(HERE) if name.endswith((".sh", ".awk", ".txt"))] + ["build-library", "kept", "prove", "room", "unproved"]
 
 LOW = """//! A number.
 #![tactic(auto)]
@@ -156,24 +157,53 @@ def try_damaged(tests, clone, proved):
     tests.same("without the kit", 75, status)
 
 
-def try_before_ci(tests, kept_of, number):
-    """What tools/prove proved `rt ci` takes; what it could not prove is kept by nobody."""
-    top, clone = tests.repository("proved", number), tests.repository("for ci", number)
+def try_one_crate(tests, kept_of, number):
+    """What `rt ci NAME` proved of a crate is taken where programs above it are proved, and nothing else is kept by that; what can't be proved isn't either."""
+    low, top = tests.repository("low", number), tests.repository("proved", number)
+    tests.same("rt ci of one crate", 0, tests.call(low, "rt", "ci", "pv_try_low")[0])
+    tests.note_entries(kept_of, low)
+    try_give(tests, low)
+    tests.same("one crate is kept", ["kept pv_try_low"], tests.taken(top))
     status, _, said = tests.call(top, "tools/prove", "pvrun", "pvwhere")
-    tests.note_entries(kept_of, top)
     tests.same("tools/prove: status", 0, status)
     tests.holds("tools/prove: nothing was proved before", "3 crates, 0 of them proved before", said)
     tests.same("tools/prove: the program", f"{number}\n", tests.call(top, "crates/pvrun/out/pvrun")[1])
-    lines = tests.call(clone, "rt", "ci")[1].splitlines()
-    for crate in ("pv_try_low", "pvrun", "pvwhere"):
-        tests.same(f"rt ci takes {crate}", 1, sum(line.startswith(f"rt: {crate} is kept: ") for line in lines))
-    tests.same("rt ci after tools/prove", "3 passed, 0 failed", lines[-1])
+    tests.same("tools/prove: it is noted", "yes", tests.is_current(top))
+    tests.same("tools/prove keeps nothing for rt ci", ["kept pv_try_low"], tests.taken(tests.repository("for ci", number)))
+    keeps = tests.repository("keeps", number)
+    tests.same("tools/prove --keep: status", 0, tests.call(keeps, "tools/prove", "--keep", "pvrun")[0])
+    tests.same("tools/prove --keep: the program", f"{number}\n", tests.call(keeps, "crates/pvrun/out/pvrun")[1])
+    tests.same("tools/prove --keep keeps nothing for rt ci", ["kept pv_try_low"], tests.taken(keeps))
     wrong = tests.repository("wrong", number, done=number + 1)
     tests.same("a wrong body: tools/prove", 125, tests.call(wrong, "tools/prove", "pvrun")[0])
     tests.same("a wrong body: nothing is kept", [], tests.taken(wrong))
 
 
-def self_test(kept_of):
+def try_give(tests, low):
+    """`tools/kept give` in a room."""
+    room, text = f"{tests.room}/a room", read(f"{low}/crates/pv_try_low/src/lib.rt").decode()
+    write(f"{room}/crates.txt", "pv_try_low:\n")
+    for what, body, wanted in (("another text", text + "// more\n", (75, False)), ("the same text", text, (0, True))):
+        write(f"{room}/crates/pv_try_low/src/lib.rt", body)
+        status = tests.call(f"{room}/crates/pv_try_low", f"{low}/tools/kept", "give")[0]
+        tests.same(f"give: {what}", wanted, (status, os.path.exists(f"{room}/crates/pv_try_low/out/rlib/stamp")))
+
+
+def try_owner(tests, is_own):
+    """A folder that someone else has, or can write to, is not read."""
+    for what, mode, wanted in (("for its owner alone", 0o700, True), ("for all to write", 0o777, False), ("for a group to write", 0o770, False)):
+        folder = f"{tests.room}/{what}"
+        os.mkdir(folder)
+        os.chmod(folder, mode)
+        tests.same(f"a folder {what}", wanted, is_own(folder))
+    os.symlink(f"{tests.room}/for its owner alone", f"{tests.room}/link")
+    tests.same("a link to a folder", False, is_own(f"{tests.room}/link"))
+    if not os.geteuid():
+        os.chown(f"{tests.room}/for its owner alone", 65534, 65534)
+        tests.same("a folder of someone else", False, is_own(f"{tests.room}/for its owner alone"))
+
+
+def self_test(kept_of, is_own):
     number = random.randrange(1000, 60000)
     with tempfile.TemporaryDirectory() as room:
         tests = Tests(room)
@@ -181,7 +211,8 @@ def self_test(kept_of):
             clone, proved = try_after_ci(tests, kept_of, number)
             try_other_sources(tests, clone, proved, number)
             try_damaged(tests, clone, proved)
-            try_before_ci(tests, kept_of, number + 2)
+            try_one_crate(tests, kept_of, number + 2)
+            try_owner(tests, is_own)
         finally:
             tests.remove_entries()
     print(f"{tests.passed} passed, {tests.failed} failed")
