@@ -63,6 +63,10 @@ try_told() {
   for word in -h help 'run -h' 'check --help' 'step -h' 'replay --help'; do
     try_call "$word" 0 "$(cat tools/help.txt)" $word
   done
+  for word in --help 'run -h' --version; do
+    "${launcher[@]}" $word >/dev/full 2>"$room/err"
+    try "$word that can not be written" "12 pvrun: the output could not be written" "$? $(cat "$room/err")"
+  done
   call --version
   try_holds '--version' "Valumeiro $(cat VERSION) (" "$out"
 }
