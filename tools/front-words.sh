@@ -171,6 +171,9 @@ try_edges() {
     try_call "no $name: a fault" 2 'indeterminate line=3 turn=3' run "$work/unset.c"
     [ "$name" = head ] || try "no $name: words of a fault" 'pvrun: hint: without awk nothing is said in words' "$err"
   done
+  only gcc
+  try_call '--lower without python3' 127 '' run "$work/hello.c" --lower
+  try_holds '--lower without python3: words' '--lower wants a python3' "$err"
   launcher=(env -i "${kept[@]}")
   try_call 'no environment' 0 $'hello\nexit status=3 turn=6' run "$work/hello.c"
   launcher=(bash -c 'ulimit -n 4; exec "$@"' bash "${kept[@]}")
