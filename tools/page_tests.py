@@ -13,7 +13,7 @@ from page_calls import Kept
 from page_journal import Instance, Journal, turn_of
 from page_markers import line_in
 from page_memory import Addresses, Picture, Turns
-from page_runs import Answer, Asked, Programs
+from page_runs import Answer, Asked, Programs, parted
 from page_text import escaped, shown
 from page_words import HEADINGS, SENTENCES, script_words
 from standing_tests import try_standing
