@@ -301,7 +301,9 @@ def try_hostile(tests: Tests) -> None:
     prints = 'int printf(const char *, ...);\nint main(void) { printf("</pre><script>1</script>%c", 0); return 0; }\n'
     path = tests.file("prints.c", prints)
     shape = Shape(tests.page(f"{HERE}/front-programs/two_streams.c"))
-    tests.same("what goes to stderr", shown(read(f"{HERE}/front-programs/two_streams.stderr")), shape.texts.get("stderr"))
+    # (the file has no zero byte)
+    wanted = shown(read(f"{HERE}/front-programs/two_streams.stderr"))
+    tests.same("what goes to stderr", wanted, shape.texts.get("stderr", "").replace("\u2400", ""))
     tests.holds("what goes to stderr: said", "written to stderr is underlined" in shape.texts.get("part part-output", ""))
     tests.holds("a hostile output", "</pre><script>1</script>\u2400" in Shape(tests.page(path)).texts.get("part part-output", ""))
     script = tests.file("hostile.script", b"x 1 0x20000\n</td><script>\xff\n")
