@@ -11,7 +11,8 @@ MOST = 4095
 # The sizes of the arguments' types by the length modifier: int, long (which is size_t, intmax_t and ptrdiff_t here), long long.
 KINDS = {None: "int", "h": "int", "hh": "int", "l": "long", "j": "long", "z": "long", "t": "long", "ll": "long long"}
 # What a flag may stand with; with any other conversion it means nothing, or is undefined (p6).
-FLAGS = {"-": "diouxXcsp", "+": "di", " ": "di", "#": "oxX", "0": "diouxX"}
+FLAGS = "-+ #0"
+TAKING = ("diouxXcsp", "di", "di", "oxX", "diouxX")
 
 
 def meant(literal):
@@ -32,7 +33,7 @@ def meant(literal):
 
 
 def quoted(characters):
-    return '"%s"' % re.sub(r'[^ !#-\[\]-~]', lambda it: "\\%03o" % ord(it[0]), characters)
+    return '"%s"' % re.sub(r'[^ !#-?A-\[\]-~]', lambda it: "\\%03o" % ord(it[0]), characters)
 
 
 class Conversion:
@@ -45,7 +46,7 @@ class Conversion:
         self.given = []
         if self.kind not in "diouxXcsp" or "." in self.text and self.kind in "cp":
             raise Left(at, "the conversion " + self.text)
-        if any(self.kind not in FLAGS[it] for it in self.flags) or self.length and self.kind in "csp":
+        if any(self.kind not in TAKING[FLAGS.index(it)] for it in self.flags) or self.length and self.kind in "csp":
             raise Left(at, "the conversion " + self.text)
         if any(it and it.isdigit() and int(it) > MOST for it in (self.width, self.precision)):
             raise Left(at, "more than %d characters of one conversion" % MOST)

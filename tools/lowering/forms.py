@@ -1,7 +1,11 @@
 """What several rules ask of an expression or a declaration."""
 import re
 
+from lowering.text import IDENTIFIER, Left
+
+LOOPS = ("ForStmt", "WhileStmt", "DoStmt")
 WRAPPERS = ("ImplicitCastExpr", "ParenExpr", "ConstantExpr")
+WORDS = set("struct union enum const volatile restrict unsigned signed char short int long _Bool void".split())
 
 
 def strip(node):
@@ -98,6 +102,18 @@ def declare(spelled, name):
     if found:
         return spelled[:found.start()] + " " + name + spelled[found.start():]
     return spelled + " " + name
+
+
+def spelling(text, node, function):
+    """The type as it may be written before the function."""
+    spelled = node["type"]["qualType"]
+    if re.search(r"\((unnamed|anonymous)", spelled):
+        raise Left(node["b"], "a type without a name")
+    names = set(IDENTIFIER.findall(spelled)) - WORDS
+    if function and any(it.get("name") in names and it["kind"] in ("TypedefDecl", "RecordDecl", "EnumDecl") and
+                        text.function_of(it) is function for it in text.nodes):
+        raise Left(node["b"], "a type that a block declares")
+    return spelled
 
 
 def unqualified(spelled):

@@ -11,13 +11,12 @@ list, of a type, or of a name that stands there before.
 """
 import re
 
-from lowering.forms import around, declare, writes
+from lowering.forms import LOOPS, around, declare, writes
 from lowering.text import Left
 
 NAME = "goto"
 # One block of a function at a time.
 TIMES = 60
-LOOPS = ("ForStmt", "WhileStmt", "DoStmt")
 
 
 def innermost(statement, kinds, end):

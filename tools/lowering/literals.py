@@ -11,26 +11,13 @@ use); a const literal in a block whose values are no constants; types that the f
 """
 import re
 
-from lowering.forms import around, calls, declare, decays, is_constant, listed, strip, within, writes
+from lowering.forms import around, calls, declare, decays, is_constant, listed, spelling, strip, within, writes
 from lowering.initializers import List, check as check_order, first_members
-from lowering.text import IDENTIFIER, Left
+from lowering.text import Left
 
 NAME = "compound literals"
 BLOCKS = ("IfStmt", "SwitchStmt", "WhileStmt", "DoStmt", "ForStmt")
-WORDS = set("struct union enum const volatile restrict unsigned signed char short int long _Bool void".split())
 ALLOCATING = ("malloc", "calloc")
-
-
-def spelling(text, node, function):
-    """The type as it may be written before the function."""
-    spelled = node["type"]["qualType"]
-    if re.search(r"\((unnamed|anonymous)", spelled):
-        raise Left(node["b"], "a type without a name")
-    names = set(IDENTIFIER.findall(spelled)) - WORDS
-    if function and any(it.get("name") in names and it["kind"] in ("TypedefDecl", "RecordDecl", "EnumDecl") and
-                        text.function_of(it) is function for it in text.nodes):
-        raise Left(node["b"], "a type that a block declares")
-    return spelled
 
 
 def is_plain_number(node):
