@@ -1,26 +1,26 @@
 int printf(const char *, ...);
 void abort(void);
 void *memcpy(void *, const void *, unsigned long);
-enum { PV_left = 1, PV_plus = 2, PV_blank = 4, PV_other = 8, PV_zeros = 16 };
-static const char PV_blanks[] = BLANKS;
-static int PV_too_long(void) {
+enum { left = 1, plus = 2, blank = 4, other = 8, zeros = 16 };
+static const char blanks[] = BLANKS;
+static int too_long(void) {
   printf("\n[--lower: more than 4095 characters of one conversion (7.21.6.1p15)]\n");
   abort();
   return 0;
 }
-static const char *PV_pad(int width, unsigned long length, int is_after) {
+static const char *pad(int width, unsigned long length, int is_after) {
   unsigned long wide = width < 0 ? -width : width;
-  return PV_blanks + (sizeof PV_blanks - 1) - (is_after == (width < 0) && wide > length ? wide - length : 0);
+  return blanks + (sizeof blanks - 1) - (is_after == (width < 0) && wide > length ? wide - length : 0);
 }
-static char *PV_number(char *at, unsigned long value, int letter, int flags, int width, int precision) {
+static char *number(char *at, unsigned long value, int letter, int flags, int width, int precision) {
   char *end = at;
   int base = letter == 'o' ? 8 : letter == 'x' || letter == 'X' ? 16 : 10, ten = letter == 'X' ? 'A' : 'a';
-  int prefixed = base == 16 && flags & PV_other && value, sign = 0, least = precision < 0 ? 1 : precision;
+  int prefixed = base == 16 && flags & other && value, sign = 0, least = precision < 0 ? 1 : precision;
   if (letter == 'd') {
-    sign = (long)value < 0 ? '-' : flags & PV_plus ? '+' : flags & PV_blank ? ' ' : 0;
+    sign = (long)value < 0 ? '-' : flags & plus ? '+' : flags & blank ? ' ' : 0;
     value = (long)value < 0 ? -value : value;
   }
-  if (flags & PV_zeros && precision < 0 && width - (sign != 0) - 2 * prefixed > 1)
+  if (flags & zeros && precision < 0 && width - (sign != 0) - 2 * prefixed > 1)
     least = width - (sign != 0) - 2 * prefixed;
   for (*at = 0; value; value /= base) {
     int digit = value % base;
@@ -28,7 +28,7 @@ static char *PV_number(char *at, unsigned long value, int letter, int flags, int
   }
   while (end - at < least)
     *--at = '0';
-  if (base == 8 && flags & PV_other && *at != '0')
+  if (base == 8 && flags & other && *at != '0')
     *--at = '0';
   if (prefixed) {
     *--at = letter;

@@ -1,14 +1,14 @@
-struct PV_one {
+struct one {
   int kind;
   unsigned long n;
   const void *p;
   void (*f)(void);
 };
-struct PV_list {
+struct list {
   int at, left;
-  struct PV_one all[MOST];
+  struct one all[MOST];
 };
-static const struct PV_one *PV_next(struct PV_list *list, int at) {
+static const struct one *next(struct list *list, int at) {
   if (at >= list->left)
     return &list->all[MOST];
   list->at = at + 1;

@@ -13,7 +13,7 @@ Other than it was: a string with a width or a precision, and each string of spri
 told by the clause of that access (6.5.3.2p4 in place of 7.1.4p1), in its line and with its reason. Of two strings of one printf that can't be
 read, one with a width or a precision is told first. Default places of later objects.
 """
-from lowering.forms import body_of, listed, strip
+from lowering.forms import listed, strip
 from lowering.formats import FLAGS, KINDS, MOST, meant, pieces_of, quoted
 from lowering.shared import Shared, called, kind_of, promoted
 from lowering.text import Left
@@ -22,7 +22,6 @@ NAME = "formats"
 # The number of the format among the arguments.
 CALLS = {"printf": 0, "sprintf": 1, "snprintf": 2}
 GREATEST = {"int": "2147483647", "long": "9223372036854775807", "long long": "9223372036854775807"}
-NARROW = {"h": "short", "hh": "char"}
 
 
 def check_types(text, conversion, given):
@@ -30,17 +29,12 @@ def check_types(text, conversion, given):
     *amounts, kind = [promoted(text, given[it]) for it in conversion.given]
     if conversion.kind in "sp":
         fits = kind_of(kind) in ((7,) if conversion.kind == "s" else (7, 8))
-    elif conversion.length in NARROW or conversion.kind == "c" and not conversion.is_plain:
+    elif conversion.narrow or conversion.kind == "c" and not conversion.is_plain:
         fits = kind == "int"
     else:
         fits = kind.replace("unsigned ", "") == KINDS[conversion.length]
     if not fits or any(it != "int" for it in amounts):
         raise Left(conversion.at, "a wrong type for " + conversion.text)
-
-
-def narrowed(conversion):
-    """The type that `h` and `hh` ask for (p7)."""
-    return "%s %s" % ("signed" if conversion.kind in "di" else "unsigned", NARROW[conversion.length])
 
 
 class Function:
@@ -70,7 +64,7 @@ class Function:
         self.handed.append(value)
 
     def conversion(self, it, value, kind):
-        if it.is_plain and it.length not in NARROW:
+        if it.is_plain and not it.narrow:
             self.hand(it.native, "(%s)%s" % (kind.replace("long long", "long"), value) if it.length == "ll" else value)
             return
         width, precision = self.amount(it.width, it.given[0], "0"), self.amount(it.precision, it.given[-2:][0], "-1")
@@ -89,6 +83,7 @@ class Function:
 
     def amount(self, said, given, absent):
         """A width or a precision; one that is an argument is kept within what a conversion need make."""
+        self.shared.blanks = max(self.shared.blanks, MOST if said == "*" else int(said or 0))
         if said != "*":
             return absent if said is None else str(int(said or 0))
         name = "@n%d" % given
@@ -99,8 +94,8 @@ class Function:
     def number(self, it, value, kind, width, precision):
         name, most = "@b%d" % len(self.steps), 32 + max(MOST if "@" in size else abs(int(size)) for size in (width, precision))
         is_signed = not kind.startswith("unsigned")
-        if it.length in NARROW:
-            value = "(%s)%s" % (narrowed(it), value)
+        if it.narrow:
+            value = "(%s)%s" % (it.narrow, value)
         elif is_signed != (it.kind in "di"):
             # (a call that stops as the conversion does: those before it are looked at first)
             self.steps.append("if (%s %s) %s" % (value, "< 0" if is_signed else "> " + GREATEST[KINDS[it.length]], self.printed("%d")))
@@ -126,14 +121,10 @@ class Function:
 
     def padded(self, width, conversion, value, length):
         pad = "%s_pad(%s, %s, %%d)" % (self.shared.prefix, width, length)
-        if "@" in width:
-            self.shared.blanks = MOST
-        else:
-            self.shared.blanks = max(self.shared.blanks, abs(int(width)))
-        if width != "0" and not width.startswith("-"):
+        if width != "0":
             self.hand("%s", pad % 0)
         self.hand(conversion, value)
-        if width not in ("0", "-0") and not width.isdigit():
+        if width != "0":
             self.hand("%s", pad % 1)
 
 
@@ -177,22 +168,21 @@ class Rewriter:
         self.text.edit(literal["b"], literal["e"], quoted("".join(
             it.replace("%", "%%") if isinstance(it, str) else it.native for it in pieces)))
         for it in pieces:
-            if not isinstance(it, str) and it.length in ("h", "hh", "ll"):
+            if not isinstance(it, str) and (it.narrow or it.length == "ll"):
                 value = rest[it.given[-1]]
-                kind = narrowed(it) if it.length in NARROW else promoted(self.text, value).replace("long long", "long")
+                kind = it.narrow or promoted(self.text, value).replace("long long", "long")
                 self.text.edit(value["b"], value["e"], "(%s)(" % kind, (value["b"], value["e"]), ")")
 
 
 def apply(text, notes):
-    defined = {it["name"] for it in text.tops if it["kind"] == "FunctionDecl" and body_of(it)}
     rewriter, kept = Rewriter(text, notes), set()
     for node in text.nodes:
         name = called(node)
-        if name in defined:
+        if name in text.defined:
             continue
         if name in CALLS:
             count = len(text.edits)
-            with notes.attempt(NAME, text):
+            with notes.attempt(NAME):
                 rewriter.call(node, name)
             if len(text.edits) == count:
                 kept.add(name)
@@ -201,9 +191,8 @@ def apply(text, notes):
             notes.used("%s of puts" % NAME, node["b"])
     rewriter.shared.write()
     # Functions with ... that nothing calls any more are declared no more; printf is, where puts became it.
-    for node in text.tops:
-        if node["kind"] == "FunctionDecl" and node["name"] not in defined | kept:
-            if node["name"] in ("sprintf", "snprintf"):
-                text.blank(node["b"], text.past(node))
-            elif node["name"] == "puts":
-                text.insert(node["b"], "int printf(const char *, ...); ")
+    for node in text.functions:
+        if node["name"] in {"sprintf", "snprintf"} - kept - set(text.defined):
+            text.blank(node["b"], text.past(node))
+        elif node["name"] == "puts" and "puts" not in text.defined:
+            text.insert(node["b"], "int printf(const char *, ...); ")

@@ -6,10 +6,14 @@ lines, order and sequencing, and pointers are copied by memcpy, which is no use 
 import os
 import re
 
-from lowering.forms import declare, listed, spelling, strip, unqualified
-from lowering.text import File, Left
+from lowering.forms import TYPE_WORDS, declare, listed, spelling, strip, unqualified
+from lowering.text import IDENTIFIER, TOKEN, File, Left
 
 KINDS = {"int": 1, "unsigned int": 2, "long": 3, "unsigned long": 4, "long long": 5, "unsigned long long": 6}
+
+
+# The names in the C texts that stand there for what they are in C, or are put in.
+KEPT = TYPE_WORDS | set("static sizeof if else for while break return printf abort memcpy BLANKS MOST".split())
 
 
 def called(node):
@@ -36,9 +40,11 @@ def kind_of(spelled):
     return 10 if "(*" in spelled else 9 if spelled.endswith("*") else None
 
 
-def in_one_line(file):
+def in_one_line(file, prefix):
+    """A C text; its names begin with a prefix, so that they mean nothing in the program."""
     with open(os.path.join(os.path.dirname(os.path.realpath(__file__)), file), encoding="ascii") as lines:
-        return " ".join(it.strip() for it in lines)
+        text = " ".join(it.strip() for it in lines)
+    return TOKEN.sub(lambda it: prefix + "_" + it[0] if IDENTIFIER.match(it[0]) and it[0] not in KEPT else it[0], text)
 
 
 class Shared:
@@ -55,7 +61,7 @@ class Shared:
 
     def write(self):
         if self.files:
-            written = " ".join(map(in_one_line, sorted(self.files))).replace("PV", self.prefix).replace("MOST", str(self.most))
+            written = " ".join(in_one_line(it, self.prefix) for it in sorted(self.files)).replace("MOST", str(self.most))
             pieces = File(self.title), written.replace("BLANKS", '"%s"' % (" " * self.blanks)), " "
             self.text.edits.insert(0, (self.at, -len(self.text.text) - 1, -1, self.at, pieces))
 
@@ -65,20 +71,21 @@ class Shared:
         self.most = max(self.most, len(given))
         for index, it in enumerate(given):
             spelled = promoted(self.text, it)
-            kind, value, slot = kind_of(spelled), "%s_v%d" % (made, index), "%s.all[%d]" % (made, index)
+            kind, value, slot = kind_of(spelled), "%s_v%d" % (made, index), "%s.%s_all[%d].%s_" % (made, self.prefix, index, self.prefix)
             if kind is None:
                 raise Left(it["b"], "an argument that is neither a number nor a pointer")
             spelled = spelled if kind < 9 else spelling(self.text, it, self.text.function_of(it))
             words.append(declare(spelled, value))
-            copied = "memcpy(&{0}.{1}, &{2}, sizeof {2})".format(slot, "f" if kind == 10 else "p", value)
-            steps.append("%s.kind = %d; %s; " % (slot, kind, "%s.n = %s" % (slot, value) if kind < 7 else copied))
-        self.text.before(call, "static struct {0}_list {1}_make({2}) {{ struct {0}_list {1}; {1}.at = 0; {1}.left = {3}; {4}return {1}; }}".format(
-            self.prefix, made, ", ".join(words) or "void", len(given), "".join(steps)))
+            copied = "memcpy(&{0}{1}, &{2}, sizeof {2})".format(slot, "f" if kind == 10 else "p", value)
+            steps.append("%skind = %d; %s; " % (slot, kind, "%sn = %s" % (slot, value) if kind < 7 else copied))
+        self.text.before(
+            call, "static struct {0}_list {1}_make({2}) {{ struct {0}_list {1}; {1}.{0}_at = 0; {1}.{0}_left = {3}; {4}return {1}; }}".format(
+                self.prefix, made, ", ".join(words) or "void", len(given), "".join(steps)))
         return [made + "_make("] + listed(given) + [")"]
 
     def printing(self, call, name):
         """The function, written in the call's line, that prints such a structure."""
         self.needed(call, "format.c", "list.c", "print.c")
         function, self.blanks = self.text.name(name), 4095
-        self.text.before(call, in_one_line("call.c").replace("NAME", function).replace("PV", self.prefix))
+        self.text.before(call, in_one_line("call.c", self.prefix).replace(self.prefix + "_NAME", function))
         return function

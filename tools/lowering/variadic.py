@@ -10,7 +10,7 @@ whose address is taken, two va_arg in one expression, a va_list in a structure o
 Other than it was: an argument that isn't there is told as an access outside of an object, 6.5.3.2p4, at va_arg's line, since the language has
 no clause for it; a way out of the function without va_end is not told.
 """
-from lowering.forms import LOOPS, around, body_of, listed, parameters_of, strip, unqualified, uses_of
+from lowering.forms import LOOPS, around, listed, parameters_of, strip, unqualified, uses_of
 from lowering.shared import Shared, called, kind_of, promoted
 from lowering.text import Left
 
@@ -31,11 +31,8 @@ class Unit:
     """All functions with ... of a text, and what becomes of their lists."""
 
     def __init__(self, text):
-        self.text = text
-        self.functions = [it for it in text.tops if it["kind"] == "FunctionDecl"]
-        self.bodies = {it["name"]: it for it in self.functions if body_of(it)}
+        self.text, self.bodies, self.calls = text, text.defined, []
         self.own = {name for name, it in self.bodies.items() if it.get("variadic")}
-        self.calls = []
 
     # ---- what is known to fit
 
@@ -49,16 +46,16 @@ class Unit:
                 raise Left(node["b"], "a va_list within a structure")
             if node["kind"] in ("VarDecl", "ParmVarDecl") and node.get("name") and is_list(node):
                 self.check_list(node)
-            if node["kind"] == "FunctionDecl" and node.get("variadic") and node["b"] >= 0 and node["name"] not in self.own and \
-                    node["name"] not in ("printf", "sprintf", "snprintf") and not node.get("isImplicit"):
+        for node in self.text.functions:
+            if node.get("variadic") and node["name"] not in self.own | {"printf", "sprintf", "snprintf"}:
                 raise Left(node["b"], "a function with ... that is not defined here")
         for name in self.own:
             self.check_types(name)
 
     def check_list(self, variable):
         uses, handed, started = [], [], []
-        for node in self.text.nodes:
-            if node["kind"] == "DeclRefExpr" and node["referencedDecl"].get("id") == variable["id"]:
+        for node in self.text.of("DeclRefExpr"):
+            if node["referencedDecl"].get("id") == variable["id"]:
                 outer = node["up"]
                 while outer["kind"] in ("ImplicitCastExpr", "ParenExpr"):
                     outer = outer["up"]
@@ -75,16 +72,15 @@ class Unit:
             raise Left(variable["b"], "a va_list that is used again after it was handed over, or begun twice")
         if handed and loop_of(handed[0]) is not (loop_of(started[0]) if started else None):
             raise Left(handed[0]["b"], "a va_list that a loop hands over")
-        if any(self.expression(one) is self.expression(other) for one in uses for other in uses if one is not other):
-            raise Left(uses[0]["b"], "two va_arg in one expression")
+        if handed and any(self.text.function_of(it) is self.text.function_of(handed[0]) for it in self.text.of("GotoStmt")):
+            raise Left(handed[0]["b"], "a va_list that a jump may hand over again")
+        expressions = [id(self.expression(it)) for it in uses + handed]
+        if len(set(expressions)) < len(expressions):
+            raise Left(variable["b"], "a va_list that one expression uses twice")
 
     def expression(self, node):
-        inner = node
-        for outer in around(node):
-            if outer["kind"].endswith("Stmt") or outer["kind"] == "VarDecl":
-                return inner
-            inner = outer
-        return inner
+        chain = [node, *around(node)]
+        return next(it for it, outer in zip(chain, chain[1:]) if outer["kind"].endswith("Stmt") or outer["kind"].endswith("Decl"))
 
     def types_of(self, name, seen=()):
         """The types that va_arg gives in a function, and in those that it hands a list to."""
@@ -110,7 +106,7 @@ class Unit:
             if callee == name:
                 for it in self.given(call, name):
                     have = promoted(self.text, it)
-                    if have != wanted and not {kind_of(have), kind_of(wanted)} <= {7, 8}:
+                    if have.replace("const ", "") != wanted.replace("const ", "") and {kind_of(have), kind_of(wanted)} != {7, 8}:
                         raise Left(it["b"], "an argument of another type than va_arg's")
 
     def given(self, call, name):
@@ -120,8 +116,9 @@ class Unit:
 
     def write(self, notes):
         self.shared = Shared(self.text, "lists of arguments, 7.16")
+        self.prefix = self.shared.prefix
         for begin, token in self.text.tokens(0, len(self.text.text)):
-            top = next((it for it in self.functions if it["b"] <= begin < it["e"] and token == "..." and it["name"] in self.own), None)
+            top = next((it for it in self.text.functions if it["b"] <= begin < it["e"] and token == "..." and it["name"] in self.own), None)
             if top or token == "__builtin_va_list":
                 self.text.edit(begin, begin + len(token), "struct %s_list" % self.prefix, " %s_rest" % self.prefix if top else "")
                 self.shared.needed(next(it for it in reversed(self.text.tops) if it["b"] <= begin), "format.c", "list.c")
@@ -139,22 +136,18 @@ class Unit:
             self.call(call, self.given(call, name))
         self.shared.write()
 
-    @property
-    def prefix(self):
-        return self.shared.prefix
-
     def argument(self, node):
         kind = kind_of(unqualified(self.text.type_of(node)))
         if kind is None:
             raise Left(node["b"], "va_arg of this type")
         begin, end = node["inner"][0]["b"], node["inner"][0]["e"]
         self.text.edit(node["b"], node["e"], "((%s)%s_next(&(" % (node["type"]["qualType"], self.prefix), (begin, end), "), (",
-                       self.text.text[begin:end], ").at)->%s)" % ("n" if kind < 7 else "f" if kind == 10 else "p"))
+                       self.text.text[begin:end], ").{0}_at)->{0}_{1})".format(self.prefix, "n" if kind < 7 else "f" if kind == 10 else "p"))
 
     def macro(self, node, name):
         first, *rest = [(it["b"], it["e"]) for it in node["inner"][1:]]
         if name.endswith("end"):
-            pieces = [").left = -1"]
+            pieces = [").%s_left = -1" % self.prefix]
         else:
             pieces = [") = ", "(", rest[0], ")"] if name.endswith("copy") else [") = %s_rest" % self.prefix]
         self.text.edit(node["b"], node["e"], "((void)((", first, *pieces, "))")
