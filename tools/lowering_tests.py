@@ -103,9 +103,8 @@ def try_program(program, source):
         shutil.rmtree(room)
 
 
-def try_pair(program, rule, seed):
+def try_pair(program, rule, form, plain, arguments, seed):
     """What is wrong with one pair, and the kind of its verdict."""
-    form, plain, arguments = lowering_pairs.pair(rule, seed)
     room = tempfile.mkdtemp()
     try:
         for name, text in (("form.c", form), ("plain.c", plain)):
@@ -125,9 +124,9 @@ def try_pair(program, rule, seed):
 def try_pairs(program, count, only=""):
     """That many pairs of each rule: how many differ, and how the others ended."""
     failed, kinds = 0, {}
-    rows = [(rule, seed) for rule in lowering_pairs.RULES if only in rule for seed in range(count)]
+    rows = [(rule, *pair) for rule in lowering_pairs.RULES if only in rule for pair in lowering_pairs.pairs(rule, count)]
     with ThreadPoolExecutor(2) as pool:
-        for (rule, _), (kind, wrong) in zip(rows, pool.map(lambda it: try_pair(program, *it), rows)):
+        for (rule, *_), (kind, wrong) in zip(rows, pool.map(lambda it: try_pair(program, *it), rows)):
             kinds.setdefault(rule, {}).setdefault(kind, 0)
             kinds[rule][kind] += 1
             failed += wrong is not None

@@ -45,8 +45,8 @@ def check_calls(text, definition, parameters, is_old):
         if not call:
             raise Left(node["b"], "the address of '%s' is taken" % definition["name"])
         given = call["inner"][1:]
-        if len(given) != len(parameters) or definition.get("variadic"):
-            raise Left(call["b"], "a call with another number of arguments, or of a function with ...")
+        if len(given) != len(parameters):
+            raise Left(call["b"], "a call with another number of arguments")
         if re.search(r"\(\)", node["type"]["qualType"]) or is_old:
             for it, parameter in zip(map(before_conversion, given), parameters):
                 kind = unqualified(text.type_of(parameter))

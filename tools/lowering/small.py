@@ -5,7 +5,7 @@ standard makes a constraint.
 """
 import re
 
-from lowering.forms import TYPE_WORDS, body_of, declare, is_aggregate, parameters_of, spelling, uses_of
+from lowering.forms import TYPE_WORDS, body_of, declare, parameters_of, spelling, uses_of
 from lowering.text import IDENTIFIER, File, Left
 
 NAMING = ("TypedefDecl", "VarDecl", "ParmVarDecl", "FunctionDecl", "EnumConstantDecl")
@@ -73,13 +73,13 @@ class Switches:
 
 
 class Spellings:
-    """Words that GNU C spells in another way, `register` of a scalar (6.7.1p6: a hint), and `inline` with static or extern (6.7.4p6: a hint).
-    Left: `register` of an array or a structure (6.3.2.1p3: its arrays have no pointers), `inline` alone (6.7.4p7: it defines no function for
-    other calls), `typeof` of an expression."""
+    """Words that GNU C spells in another way, `register` (6.7.1p6: a hint; clang looked whether a pointer is made to such an object), and
+    `inline` with static or extern (6.7.4p6: a hint). Left: `inline` alone (6.7.4p7: it defines no function for other calls), `typeof` of an
+    expression."""
 
     NAME = "spellings"
     WORDS = {"__extension__": "", "__const": "const", "__const__": "const", "__signed": "signed", "__signed__": "signed",
-             "__volatile": "volatile", "__volatile__": "volatile", "__restrict": "restrict", "__restrict__": "restrict"}
+             "__volatile": "volatile", "__volatile__": "volatile", "__restrict": "restrict", "__restrict__": "restrict", "register": ""}
 
     def apply(self, text, notes):
         tokens = list(text.tokens(0, len(text.text)))
@@ -87,15 +87,9 @@ class Spellings:
             if token in self.WORDS:
                 text.edit(at, at + len(token), self.WORDS[token])
                 notes.used("%s %s" % (self.NAME, token), at)
-            elif token in ("register", "inline", "__inline", "__inline__", "typeof", "__typeof__", "__typeof"):
+            elif token in ("inline", "__inline", "__inline__", "typeof", "__typeof__", "__typeof"):
                 with notes.attempt("%s %s" % (self.NAME, token), at):
-                    rule = {"t": self.typeof, "r": self.register}.get(token.strip("_")[0], self.inline)
-                    rule(text, tokens, index, at, at + len(token))
-
-    def register(self, text, tokens, index, begin, end):
-        if any(it["b"] <= begin < it["e"] and is_aggregate(text, it) for it in text.of("VarDecl", "ParmVarDecl")):
-            raise Left(begin, "an array or a structure, whose arrays have no pointers then")
-        text.edit(begin, end, "")
+                    (self.typeof if "typeof" in token else self.inline)(text, tokens, index, at, at + len(token))
 
     def inline(self, text, tokens, index, begin, end):
         top = next((it for it in text.tops if it["b"] <= begin < it["e"]), None)
