@@ -32,17 +32,17 @@ class Drawn:
         self.random = random.Random(seed)
         self.bad = self.random.random() < 0.55
 
-    def value(self, good=GOOD):
+    def value(self, good=GOOD, bad=BAD):
         """A value; at most one in a program is a bad one, and it is not always there."""
         chosen = good
         if self.bad and self.random.random() < 0.3:
-            self.bad, chosen = False, BAD
+            self.bad, chosen = False, bad
         value = self.random.choice(chosen)
         return self.one_of(value, "(%s %s %d)" % (value, self.one_of("+", "-", "^"), self.number(1, 9)))
 
     def calm(self):
         """A value without side effects."""
-        return self.value([it for it in GOOD if not it.startswith("next")])
+        return self.value([it for it in GOOD if not it.startswith("next")], [it for it in BAD if "++" not in it])
 
     def one_of(self, *choices):
         return self.random.choice(choices)
@@ -263,9 +263,10 @@ def printf(draw):
 
 def literals(draw):
     """Each literal's object by hand: at the beginning of its block, and given its value by a function."""
-    a, b, kind = draw.calm(), draw.calm(), draw.number(0, 3)
+    a, b, kind = draw.calm(), draw.calm(), draw.number(0, 6)
     makes = "static struct pair make(int x, int y) { struct pair p = {x, y}; return p; } struct two { int a[2]; }; " \
-        "static struct two both(int x, int y) { struct two t = {{x, y}}; return t; }\n"
+        "static struct two both(int x, int y) { struct two t = {{x, y}}; return t; } " \
+        "static int one(int x) { return x; } struct near { int *p; }; static struct near points(int *p) { struct near n = {p}; return n; }\n"
     if kind == 0:
         form = "  printf(\"%%d\\n\", at(&(struct pair){ %s,\n    %s }));\n" % (a, b)
         plain = "  struct pair l; printf(\"%%d\\n\", at(&*(l = make(%s,\n    %s), &l)));\n" % (a, b)
@@ -280,6 +281,20 @@ def literals(draw):
         rest = (a, b, draw.one_of("q->y", "p ? p->x : 0", "n"))
         form = form % rest
         plain = form.replace("{\n    struct pair *q = &(struct pair){ n, %s };" % a, "{ struct pair l;\n    struct pair *q = &*(l = make(n, %s), &l);" % a)
+    elif kind == 3:
+        form = "  int *p = &(int){ %s };\n  *p += %s;\n  printf(\"%%d\\n\", *p);\n" % (a, b)
+        plain = form.replace("int *p = &(int){ %s };" % a, "int l; int *p = &*(l = one(%s), &l);" % a)
+    elif kind == 4:
+        form = "  int *p = 0;\n  while (k-- > 0 && (p = (int[]){ k, %s })[%d])\n    i += %s;\n  printf(\"%%d %%d\\n\", i,\n    %s);\n" % (
+            a, draw.number(0, 2), b, draw.one_of("k", "*p"))
+        plain = form.replace("while", "{ struct two l; while").replace("(int[]){ k, %s }" % a, "(l = both(k, %s), &l)->a" % a).replace(";\n  printf", "; }\n  printf")
+    elif kind == 5:
+        form = "  struct near { int *p; } *n = &(struct near){ &(int){ %s } };\n  n->p[%d] += %s;\n  printf(\"%%d\\n\", *n->p);\n" % (
+            a, draw.one_of(0, 0, 1), b)
+        plain = form.replace("struct near { int *p; } *n", "int l; struct near m, *n").replace(
+            "&(struct near){ &(int){ %s } }" % a, "&*(m = points(&*(l = one(%s), &l)), &m)" % a)
+        form = form.replace("struct near { int *p; } *n", "struct near *n")
+        return program(form, "struct near { int *p; };\n"), program(plain, makes), []
     else:
         form = "  printf(\"%%d\\n\", of((struct pair){ .y = %s }) +\n    (struct pair){ %s,\n    1 }.x);\n" % (a, b)
         plain = "  printf(\"%%d\\n\", of(make(0, %s)) +\n    make(%s,\n    1).x);\n" % (a, b)
@@ -287,7 +302,7 @@ def literals(draw):
 
 
 def gotos(draw):
-    a, b, kind = draw.value(), draw.value(), draw.number(0, 3)
+    a, b, kind = draw.value(), draw.calm(), draw.number(0, 4)
     if kind == 0:
         form = "  int *p = 0;\n  { int inner = %s; p = &inner;\n    if (k %s 1) goto out;\n    printf(\"%%d\\n\", *p); }\n  k = %s;\nout:\n  printf(\"%%d\\n\", %s);\n"
         plain = "  int *p = 0; do {\n  { int inner = %s; p = &inner;\n    if (k %s 1) break;\n    printf(\"%%d\\n\", *p); }\n  k = %s;\n} while (0);\n  printf(\"%%d\\n\", %s);\n"
@@ -300,14 +315,30 @@ def gotos(draw):
         form = "  for (int n = 0; n < 3; n++)\n    for (int m = 0; m < 3; m++) {\n      if (n * m == 2) goto found;\n      k += %s;\n    }\n  k = -1;\nfound:\n  printf(\"%%d %%d\\n\", k,\n    %s);\n"
         plain = "  int go = 0; do { for (int n = 0; n < 3; n++) { \n    for (int m = 0; m < 3; m++) {\n      if (n * m == 2) { go = 1; break; }\n      k += %s;\n    } if (go) break; } if (go) break;\n  k = -1;\n} while (0);\n  printf(\"%%d %%d\\n\", k,\n    %s);\n"
         rest = (a, b)
-    else:
+    elif kind == 3:
         form = "  int n = 1;\n  if (k == %s) goto skip;\n  int x = %s;\n  n += x;\nskip:\n  printf(\"%%d %%d\\n\", n, %s);\n"
         plain = "  int n = 1; int x; do {\n  if (k == %s) break;\n  x = %s;\n  n += x;\n} while (0);\n  printf(\"%%d %%d\\n\", n, %s);\n"
         rest = (draw.one_of("2", "3"), a, draw.one_of("k", "x", b))
+    if kind == 4:
+        form = "  for (int n = 0; n < 4; n++) {\n    if (n == %d) goto last;\n    if (n == %d) continue;\n    if (n == %d) break;\n    k += %s;\n  last:\n" \
+            "    printf(\"%%d %%d\\n\", n, k);\n  }\n  printf(\"%%d\\n\", %s);\n"
+        plain = "  for (int n = 0; n < 4; n++) {\n    if (n != %d) {\n    if (n == %d) continue;\n    if (n == %d) break;\n    k += %s;\n  }\n" \
+            "    printf(\"%%d %%d\\n\", n, k);\n  }\n  printf(\"%%d\\n\", %s);\n"
+        rest = (draw.number(0, 4), draw.number(0, 4), draw.number(1, 4), a, b)
     return program(form % rest), program(plain % rest), []
 
 
 def variadic(draw):
+    kind = draw.number(0, 2)
+    if kind:
+        values = [draw.value() for _ in range(draw.number(1, 4))]
+        given, words = ",\n    ".join(values), ", ".join("int v%d" % n for n in range(len(values)))
+        format = "%d ".replace("d", draw.one_of("d", "x", "c", "u")) * (len(values) + draw.one_of(0, 0, 0, 1))
+        head, end = "typedef __builtin_va_list va_list; int vprintf(const char *, va_list); static void say(const char *f, ...) { va_list l;", "}\n"
+        form = head + " __builtin_va_start(l, f);\n  vprintf(f, l); __builtin_va_end(l); " + end
+        plain = "static void say(%s) {\n  printf(\"%s\", %s); " % (words, format, ", ".join("v%d" % n for n in range(len(values)))) + end
+        return program("  say(\"%s\",\n    %s);\n  printf(\"\\n\");\n" % (format, given), form), program(
+            "  say(\n    %s);\n  printf(\"\\n\");\n" % given, plain), []
     values = [draw.value() for _ in range(draw.number(1, 4))]
     count = len(values) + (draw.one_of(0, 0, 1) if draw.bad else 0)
     lists = "typedef __builtin_va_list va_list; static int add(int n, ...) { va_list l; int t = 0; __builtin_va_start(l, n);\n" \

@@ -120,6 +120,8 @@ static const char *conversion(struct print *print, const char *at) {
     if (given->kind != 7)
       print->wrong();
     text = print->pointer(given);
+    if (!text)
+      print->get(text);
     for (count = 0; precision < 0 || count < (unsigned long)precision; count++) {
       reads(print, text + count);
       if (!print->get(text + count))
