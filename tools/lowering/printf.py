@@ -13,6 +13,8 @@ Other than it was: a string with a width or a precision, and each string of spri
 told by the clause of that access (6.5.3.2p4 in place of 7.1.4p1), in its line and with its reason. Of two strings of one printf that can't be
 read, one with a width or a precision is told first. Default places of later objects.
 """
+import re
+
 from lowering.forms import listed, strip
 from lowering.formats import FLAGS, KINDS, MOST, meant, pieces_of, quoted
 from lowering.shared import Shared, called, kind_of, promoted
@@ -135,9 +137,10 @@ class Rewriter:
     def call(self, node, name):
         which = CALLS[name]
         given, literal, rest = node["inner"][1:which + 1], node["inner"][which + 1:which + 2], node["inner"][which + 2:]
-        if not literal or strip(literal[0])["kind"] != "StringLiteral":
-            raise Left(node["b"], "the format of %s is no literal" % name)
-        pieces, count = pieces_of(meant(self.text.part(literal[0])), node["b"])
+        written = "".join(token for it in literal for _, token in self.text.tokens(it["b"], it["e"]))
+        if not literal or strip(literal[0])["kind"] != "StringLiteral" or re.search(r"\\[uU]", written):
+            raise Left(node["b"], "the format of %s is no plain literal" % name)
+        pieces, count = pieces_of(meant(written), node["b"])
         conversions = [it for it in pieces if not isinstance(it, str)]
         if name == "printf" and all(it.is_plain and it.length in (None, "l") and it.kind != "i" for it in conversions):
             return

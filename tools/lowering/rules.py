@@ -101,7 +101,7 @@ def ask(rule, tree, notes, read):
         notes.leave(rule.NAME, left)
     except Refused as refused:
         notes.left.append("left: %s: what the rule wrote is refused: %s" % (rule.NAME, refused))
-    except (LookupError, ValueError, TypeError, AttributeError, StopIteration, RecursionError) as error:
+    except (LookupError, ValueError, TypeError, AttributeError, AssertionError, StopIteration, RecursionError) as error:
         # (a fault of the rule's own leaves the text as it is, and is told)
         notes.left.append("left: %s: the rule itself failed: %r" % (rule.NAME, error))
     tree.edits, notes.lines = [], lines

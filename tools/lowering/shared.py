@@ -10,8 +10,6 @@ from lowering.forms import TYPE_WORDS, declare, listed, spelling, strip, unquali
 from lowering.text import IDENTIFIER, TOKEN, File, Left
 
 KINDS = {"int": 1, "unsigned int": 2, "long": 3, "unsigned long": 4, "long long": 5, "unsigned long long": 6}
-
-
 # The names in the C texts that stand there for what they are in C, or are put in.
 KEPT = TYPE_WORDS | set("static sizeof if else for while break return printf abort memcpy BLANKS MOST".split())
 
@@ -54,8 +52,8 @@ class Shared:
         self.text, self.title, self.prefix = text, title, text.name("shared")
         self.files, self.blanks, self.most, self.at = [], 1, 1, None
 
-    def needed(self, at, *files):
-        at = self.text.begin_of_top(at)
+    def needed(self, node, *files):
+        at = self.text.begin_of_top(node)
         self.at = at if self.at is None else min(at, self.at)
         self.files += [it for it in files if it not in self.files]
 
