@@ -11,6 +11,6 @@ static void NAME_overlap(char *at) {
 }
 static void NAME_wrong(void) { printf("%d"); }
 static int NAME(int mode, char *to, unsigned long size, const char *format, struct list given) {
-  struct print print = {mode, to, size, 0, given, NAME_get, NAME_pointer, NAME_put, NAME_overlap, NAME_wrong};
+  struct print print = {mode, 0, to, size, 0, given, NAME_get, NAME_pointer, NAME_put, NAME_overlap, NAME_wrong};
   return print_list(print, format);
 }

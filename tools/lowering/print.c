@@ -1,7 +1,7 @@
 enum { looked_at = 0, printed = 1, stored = 2, source = 77 };
 static char digits[4200];
 struct print {
-  int mode;
+  int mode, sources;
   char *to;
   unsigned long size, n;
   struct list given;
@@ -15,17 +15,19 @@ static void left_out(void) {
   printf("\n[--lower: a conversion that is left out]\n");
   abort();
 }
-static void store(struct print *print, unsigned long n, char letter) {
-  print->put(print->to + n, letter);
+static void meets(struct print *print, char *to) {
   for (int i = 0; i < print->given.at; i++)
-    if (print->given.all[i].kind == source && print->given.all[i].p == print->to + n)
-      print->overlap(print->to + n);
+    if (print->given.all[i].kind == source && print->given.all[i].p == to)
+      print->overlap(to);
 }
 static void put(struct print *print, char letter) {
   if (print->mode == printed)
     printf("%c", letter);
-  else if (print->mode == stored && print->n + 1 < print->size)
-    store(print, print->n, letter);
+  else if (print->mode == stored && print->n + 1 < print->size) {
+    print->put(print->to + print->n, letter);
+    if (print->sources)
+      meets(print, print->to + print->n);
+  }
   print->n++;
 }
 static void reads(struct print *print, const char *at) {
@@ -37,6 +39,7 @@ static void reads(struct print *print, const char *at) {
     if (print->to + k == at)
       print->overlap(print->to + k);
   print->given.all[print->given.at - 1].kind = source;
+  print->sources = 1;
 }
 static const struct one *next_given(struct print *print, int kind) {
   if (print->given.at >= print->given.left || (print->given.all[print->given.at].kind + 1) / 2 != (kind + 1) / 2)
@@ -44,13 +47,14 @@ static const struct one *next_given(struct print *print, int kind) {
   return &print->given.all[print->given.at++];
 }
 static const char *amount(struct print *print, const char *at, int *amount) {
+  int letter = print->get(at);
   *amount = 0;
-  if (print->get(at) == '*') {
+  if (letter == '*') {
     *amount = (int)next_given(print, 1)->n;
     at++;
   } else
-    for (; print->get(at) >= '0' && print->get(at) <= '9' && *amount <= 4095; at++)
-      *amount = *amount * 10 + (print->get(at) - '0');
+    for (; letter >= '0' && letter <= '9' && *amount <= 4095; letter = print->get(++at))
+      *amount = *amount * 10 + (letter - '0');
   if (*amount > 4095)
     too_long();
   return at;
@@ -71,9 +75,11 @@ static const char *conversion(struct print *print, const char *at) {
     too_long();
   if (flags & left && width > 0)
     width = -width;
-  if (print->get(at) == '.')
-    at = amount(print, at + 1, &precision);
   letter = print->get(at);
+  if (letter == '.') {
+    at = amount(print, at + 1, &precision);
+    letter = print->get(at);
+  }
   if (letter == 'h' || letter == 'l' || letter == 'j' || letter == 'z' || letter == 't') {
     length = letter == 'h' ? -1 : 1;
     at++;
@@ -144,20 +150,21 @@ static const char *conversion(struct print *print, const char *at) {
   return at;
 }
 static int print_list(struct print print, const char *format) {
-  int first = print.given.at, last = print.mode;
+  int first = print.given.at, last = print.mode, letter;
   const char *at;
   for (print.mode = last == printed ? looked_at : stored; print.mode <= last; print.mode++) {
     print.given.at = first;
     print.n = 0;
-    for (at = format; print.get(at); at++)
-      if (print.get(at) == '%')
+    for (at = format; (letter = print.get(at)); at++)
+      if (letter == '%')
         at = conversion(&print, at + 1);
       else
-        put(&print, print.get(at));
+        put(&print, letter);
   }
   if (last == stored && print.size) {
-    print.mode = stored;
-    store(&print, print.n < print.size ? print.n : print.size - 1, 0);
+    at = print.to + (print.n < print.size ? print.n : print.size - 1);
+    print.put((char *)at, 0);
+    meets(&print, (char *)at);
   }
   return print.n;
 }
