@@ -15,14 +15,17 @@ import shlex
 import shutil
 import subprocess
 import tempfile
+import tokenize
 from concurrent.futures import ThreadPoolExecutor
 
 import lowering_pairs
+from lowering.rules import RULES
 
 HERE = os.path.dirname(os.path.realpath(__file__))
 BUILT = os.path.join(HERE, "..", "crates", "pvrun", "out", "pvrun")
 COMPILERS = [it for it in ("gcc", "clang") if shutil.which(it)]
 TURNS = "10000000"
+MOST_LINES = 1499
 
 
 def call(words):
@@ -103,9 +106,37 @@ def try_program(program, source):
         shutil.rmtree(room)
 
 
-def try_pair(program, rule, seed):
+def code_lines(path):
+    """How many lines of Python have code: neither blank ones, nor comments and docstrings."""
+    lines, begins = set(), True
+    with tokenize.open(path) as file:
+        for token in tokenize.generate_tokens(file.readline):
+            if token.type in (tokenize.NEWLINE, tokenize.INDENT, tokenize.DEDENT):
+                begins = True
+            elif token.type not in (tokenize.COMMENT, tokenize.NL, tokenize.ENDMARKER):
+                if not (begins and token.type == tokenize.STRING):
+                    lines.update(range(token.start[0], token.end[0] + 1))
+                begins = False
+    return len(lines)
+
+
+def try_rules():
+    """What is wrong with the rules as such: too much code, one without its section of C17, or without its page."""
+    count = sum(map(code_lines, [os.path.join(HERE, "lower")] + glob.glob(os.path.join(HERE, "lowering", "*.py"))))
+    if count > MOST_LINES:
+        yield "tools/lower and tools/lowering have %d lines of Python" % count
+    with open(os.path.join(HERE, "..", "docs", "LOWERING.md"), encoding="utf-8") as file:
+        pages = file.read()
+    for name, rule in RULES.items():
+        if not re.search(r"\b[567]\.\d+", rule.__doc__):
+            yield "the rule %s names no section of C17" % name
+        file = getattr(rule, "__file__", "small.py")
+        if "`%s`" % os.path.basename(file) not in pages:
+            yield "the rule %s has no page" % name
+
+
+def try_pair(program, rule, form, plain, arguments, seed):
     """What is wrong with one pair, and the kind of its verdict."""
-    form, plain, arguments = lowering_pairs.pair(rule, seed)
     room = tempfile.mkdtemp()
     try:
         for name, text in (("form.c", form), ("plain.c", plain)):
@@ -125,9 +156,9 @@ def try_pair(program, rule, seed):
 def try_pairs(program, count, only=""):
     """That many pairs of each rule: how many differ, and how the others ended."""
     failed, kinds = 0, {}
-    rows = [(rule, seed) for rule in lowering_pairs.RULES if only in rule for seed in range(count)]
+    rows = [(rule, *pair) for rule in lowering_pairs.RULES if only in rule for pair in lowering_pairs.pairs(rule, count)]
     with ThreadPoolExecutor(2) as pool:
-        for (rule, _), (kind, wrong) in zip(rows, pool.map(lambda it: try_pair(program, *it), rows)):
+        for (rule, *_), (kind, wrong) in zip(rows, pool.map(lambda it: try_pair(program, *it), rows)):
             kinds.setdefault(rule, {}).setdefault(kind, 0)
             kinds[rule][kind] += 1
             failed += wrong is not None
@@ -153,11 +184,13 @@ def main(words):
         return 1
     only = words[1] if len(words) > 1 else ""
     sources = sorted(it for it in glob.glob(os.path.join(HERE, "lowering-programs", "*.c")) if only in it)
-    pairs, failed, _ = try_pairs(program, 5, only) if not only or only in lowering_pairs.RULES else (0, 0, {})
+    passed, failed, _ = try_pairs(program, 5, only) if not only or only in lowering_pairs.RULES else (0, 0, {})
     with ThreadPoolExecutor(2) as pool:
-        for source, wrong in zip(sources, pool.map(lambda it: list(try_program(program, it)), sources)):
+        rows = [("rules", list(try_rules()))] if not only else []
+        for source, wrong in rows + list(zip(sources, pool.map(lambda it: list(try_program(program, it)), sources))):
             failed += bool(wrong)
+            passed += not wrong
             for it in wrong:
                 print("%s: %s" % (os.path.basename(source), it))
-    print("%d passed, %d failed" % (len(sources) + 5 * len(lowering_pairs.RULES) * (pairs > 0) - failed, failed))
+    print("%d passed, %d failed" % (passed, failed))
     return int(failed > 0)

@@ -8,15 +8,11 @@ third parameter, an array's size in the parameters (6.9.1p10 evaluates it).
 """
 import re
 
+from lowering.formats import quoted
 from lowering.forms import body_of, declare, parameters_of, unqualified
 from lowering.text import Left
 
 NAME = "main's parameters"
-
-
-def quoted(word):
-    """The string literal of an argument; each byte that is no letter or digit as three octal digits."""
-    return '"%s"' % re.sub(r"[^A-Za-z0-9]", lambda it: "\\%03o" % ord(it[0]), word)
 
 
 def check(text, main):
@@ -32,8 +28,7 @@ def check(text, main):
 
 
 def apply(text, notes):
-    mains = [it for it in text.tops if it["kind"] == "FunctionDecl" and it.get("name") == "main"]
-    main = next((it for it in mains if body_of(it)), None)
+    mains, main = [it for it in text.functions if it["name"] == "main"], text.defined.get("main")
     if not main or not any(map(parameters_of, mains)):
         return
     if not parameters_of(main):
@@ -48,13 +43,7 @@ def apply(text, notes):
             raise Left(it["b"], "main is declared in another way")
         if it is not main and it["type"]["qualType"] == "int ()":
             continue
-        depth = 0
-        for at, token in text.tokens(begin, end):
-            depth += (token == "(") - (token == ")")
-            if depth == 0:
-                break
-        close = at + 1
-        text.blank(begin, close)
+        text.blank(begin, next(at for at, token in text.tokens(parameters_of(it)[-1]["e"], end) if token == ")") + 1)
         text.insert(begin, "(void)")
         notes.used(NAME, begin)
     given = [notes.program] + notes.arguments

@@ -10,8 +10,9 @@ LETTERS = {"n": "\n", "t": "\t", "a": "\a", "b": "\b", "f": "\f", "r": "\r", "v"
 MOST = 4095
 # The sizes of the arguments' types by the length modifier: int, long (which is size_t, intmax_t and ptrdiff_t here), long long.
 KINDS = {None: "int", "h": "int", "hh": "int", "l": "long", "j": "long", "z": "long", "t": "long", "ll": "long long"}
-# What a flag may stand with; with any other conversion it means nothing, or is undefined (p6).
-FLAGS = {"-": "diouxXcsp", "+": "di", " ": "di", "#": "oxX", "0": "diouxX"}
+FLAGS = "-+ #0"
+# What means nothing, or is undefined (p4, p6, p7): flags, a precision, a length with other conversions than theirs; and what is left.
+LEFT = re.compile(r"(?:[+ ].*[^di]|#.*[^oxX]|0.*[csp]|\..*[cp]|[hljzt].*[csp]|[^diouxXcsp])\Z", re.S)
 
 
 def meant(literal):
@@ -32,61 +33,41 @@ def meant(literal):
 
 
 def quoted(characters):
-    return '"%s"' % re.sub(r'[^ !#-\[\]-~]', lambda it: "\\%03o" % ord(it[0]), characters)
+    """Their literal; what could mean something else in one, or in what is written around it, in octal digits."""
+    return '"%s"' % re.sub(r'[^ !#->A-\[\]-~]', lambda it: "\\%03o" % ord(it[0]), characters)
 
 
 class Conversion:
     """One conversion, and its arguments: their numbers among those after the format."""
 
-    def __init__(self, found, at):
-        self.text = found[0]
+    def __init__(self, found, at, count):
+        self.text, self.at = found[0], at
         self.flags, self.width, self.precision, self.length, self.kind = found.groups()
-        self.at = at
-        self.given = []
-        if self.kind not in "diouxXcsp" or "." in self.text and self.kind in "cp":
-            raise Left(at, "the conversion " + self.text)
-        if any(self.kind not in FLAGS[it] for it in self.flags) or self.length and self.kind in "csp":
+        said = self.flags + ("" if self.precision is None else ".") + (self.length or "") + self.kind
+        if LEFT.search(said):
             raise Left(at, "the conversion " + self.text)
         if any(it and it.isdigit() and int(it) > MOST for it in (self.width, self.precision)):
             raise Left(at, "more than %d characters of one conversion" % MOST)
-
-    @property
-    def left(self):
-        return "-" in self.flags
-
-    @property
-    def is_plain(self):
-        """Whether it has no flag, width or precision, and the language has it, by this name or by another one."""
-        return not self.flags and self.width is None and self.precision is None and self.kind not in "oX"
-
-    @property
-    def native(self):
-        """What the language calls it."""
-        if self.kind in "csp":
-            return "%" + self.kind
-        return "%" + ("" if KINDS[self.length] == "int" else "l") + {"i": "d", "X": "x"}.get(self.kind, self.kind)
+        self.given = range(count, count + [self.width, self.precision].count("*") + 1)
+        self.left = "-" in self.flags
+        # Whether it has no flag, width or precision, and the language has it, by this name or by another one: and what it calls it.
+        self.is_plain = not self.flags and self.width is None and self.precision is None and self.kind not in "oX"
+        is_long = self.kind not in "csp" and KINDS[self.length] != "int"
+        # The type that its length asks for (p7), where that is none of promoted ones.
+        narrow = {"h": "short", "hh": "char"}.get(self.length)
+        self.narrow = narrow and "%s %s" % ("signed" if self.kind in "di" else "unsigned", narrow)
+        self.native = "%" + ("l" if is_long else "") + {"i": "d", "X": "x"}.get(self.kind, self.kind)
 
 
 def pieces_of(characters, at):
     """Text and conversions in turn; the numbers of the arguments that each takes, and how many all take."""
     pieces, last, count = [], 0, 0
     for found in CONVERSION.finditer(characters):
-        if found.start() < last:
-            continue
-        pieces.append(characters[last:found.start()])
+        pieces.append(characters[last:found.start()] + ("%" if found[0] == "%%" else ""))
         last = found.end()
-        if found[0] == "%%":
-            pieces[-1] += "%"
-            pieces.append(None)
-            continue
-        it = Conversion(found, at)
-        for star in (it.width, it.precision):
-            if star == "*":
-                it.given.append(count)
-                count += 1
-        it.given.append(count)
-        count += 1
-        pieces.append(it)
+        if found[0] != "%%":
+            pieces.append(Conversion(found, at, count))
+            count = pieces[-1].given[-1] + 1
     if re.search("%", CONVERSION.sub("", characters)):
         raise Left(at, "a % without a conversion")
     pieces.append(characters[last:])

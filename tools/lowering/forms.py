@@ -1,7 +1,11 @@
 """What several rules ask of an expression or a declaration."""
 import re
 
+from lowering.text import IDENTIFIER, Left
+
+LOOPS = ("ForStmt", "WhileStmt", "DoStmt")
 WRAPPERS = ("ImplicitCastExpr", "ParenExpr", "ConstantExpr")
+TYPE_WORDS = set("struct union enum const volatile restrict unsigned signed char short int long _Bool void".split())
 
 
 def strip(node):
@@ -91,13 +95,30 @@ def parameters_of(function):
 def declare(spelled, name):
     """A declaration of a name with a type, as clang spells the type."""
     spelled = spelled.strip()
-    found = re.search(r"\(\*[*\s]*(?:const|volatile|restrict|\s)*", spelled)
-    if found:
-        return spelled[:found.end()] + " " + name + spelled[found.end():]
-    found = re.search(r"\[", spelled)
-    if found:
-        return spelled[:found.start()] + " " + name + spelled[found.start():]
-    return spelled + " " + name
+    found = re.search(r"\(\*[*\s]*(?:const|volatile|restrict|\s)*", spelled) or re.search(r"(?=\[)|$", spelled)
+    return spelled[:found.end()] + " " + name + spelled[found.end():]
+
+
+def spelling(text, node, function):
+    """The type as it may be written before the function."""
+    spelled = node["type"]["qualType"]
+    if re.search(r"\((unnamed|anonymous)", spelled):
+        raise Left(node["b"], "a type without a name")
+    names = set(IDENTIFIER.findall(spelled)) - TYPE_WORDS
+    if function and any(it.get("name") in names and it["kind"] in ("TypedefDecl", "RecordDecl", "EnumDecl") and
+                        text.function_of(it) is function for it in text.nodes):
+        raise Left(node["b"], "a type that a block declares")
+    return spelled
+
+
+def is_aggregate(text, node):
+    spelled = text.type_of(node)
+    return spelled.endswith("]") or re.match(r"(const |volatile )*(struct|union)\b", spelled) is not None and "*" not in spelled
+
+
+def is_const(text, node):
+    """Whether the object itself is const."""
+    return re.search(r"\bconst\b", re.sub(r"^.*\*", "", text.type_of(node))) is not None
 
 
 def unqualified(spelled):
@@ -109,7 +130,4 @@ def unqualified(spelled):
 
 def listed(nodes):
     """The pieces of an edit for arguments, each in its line."""
-    pieces = []
-    for it in nodes:
-        pieces += ([", "] if pieces else []) + [(it["b"], it["e"])]
-    return pieces
+    return [piece for it in nodes for piece in (", ", (it["b"], it["e"]))][1:]

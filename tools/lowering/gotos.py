@@ -11,22 +11,19 @@ list, of a type, or of a name that stands there before.
 """
 import re
 
-from lowering.forms import around, declare, writes
+from lowering.forms import LOOPS, around, declare, is_const, writes
 from lowering.text import Left
 
 NAME = "goto"
 # One block of a function at a time.
 TIMES = 60
-LOOPS = ("ForStmt", "WhileStmt", "DoStmt")
 
 
 def innermost(statement, kinds, end):
     """The nearest statement of these kinds around another one, up to a block; None where there is none."""
     for outer in around(statement):
-        if outer is end:
-            return None
-        if outer["kind"] in kinds:
-            return outer
+        if outer is end or outer["kind"] in kinds:
+            return None if outer is end else outer
     return None
 
 
@@ -36,8 +33,7 @@ class Block:
     def __init__(self, text, node, labels, function):
         self.text, self.node, self.items = text, node, node["inner"]
         self.labels = {it["declId"]: it for it in labels}
-        within = [it for it in text.nodes if it["kind"] == "GotoStmt" and it["targetLabelDeclId"] in self.labels]
-        self.jumps = [(it, self.index_of(it)) for it in within]
+        self.jumps = [(it, self.index_of(it)) for it in text.of("GotoStmt") if it["targetLabelDeclId"] in self.labels]
         self.function = function
         self.where = {key: self.index_of(it) for key, it in self.labels.items()}
         self.wrapped, self.out = {}, None
@@ -53,29 +49,21 @@ class Block:
 
     def write(self):
         used = {it["targetLabelDeclId"] for it, _ in self.jumps}
-        for key, label in self.labels.items():
-            if key not in used:
-                self.replace_label(label, "")
-        self.labels = {key: it for key, it in self.labels.items() if key in used}
+        for key in set(self.labels) - used:
+            self.replace_label(self.labels[key], "")
         if not used:
             return
         self.check()
         places = [self.where[key] for key in used] + [index for _, index in self.jumps]
         self.first, self.last = min(places), max(places)
-        self.number = {key: index + 1 for index, key in enumerate(sorted(used, key=lambda it: self.labels[it]["b"]))}
+        self.number = {key: index + 1 for index, key in enumerate(it for it in self.labels if it in used)}
         self.end = len(self.number) + 1
-        exits = {key for key in used if self.where[key] == self.last and all(index < self.last for _, index in self.jumps)}
-        if exits:
-            self.last -= 1
         self.at, self.go = self.text.name("at"), self.text.name("go")
         for key in self.number:
-            self.replace_label(self.labels[key], "" if key in exits else "case %d: ;" % self.number[key])
-            if key in exits:
-                self.number[key] = self.end
+            self.replace_label(self.labels[key], "case %d: ;" % self.number[key])
         for jump, _ in self.jumps:
             self.jump(jump)
-        for statement in self.leaving():
-            self.leave(statement)
+        self.leave()
         for outer, words in self.wrapped.values():
             end = self.text.end_of(outer)
             self.text.edit(outer["b"], end, "{ ", (outer["b"], end), " ", " ".join(sorted(words)), " }")
@@ -84,9 +72,8 @@ class Block:
     def check(self):
         if self.node["up"]["kind"] == "SwitchStmt":
             raise Left(self.node["b"], "a label in the block of a switch")
-        for it in self.text.nodes:
-            if it["kind"] in ("CaseStmt", "DefaultStmt") and self.node["b"] <= it["b"] < self.node["e"] and \
-                    not innermost(it, ("SwitchStmt",), self.node):
+        for it in self.text.of("CaseStmt", "DefaultStmt"):
+            if self.node["b"] <= it["b"] < self.node["e"] and not innermost(it, ("SwitchStmt",), self.node):
                 raise Left(it["b"], "a case of a switch around the labels")
 
     def replace_label(self, label, written):
@@ -117,20 +104,15 @@ class Block:
             words = self.wrapped.setdefault(outer["id"], (outer, set()))[1]
             words.add(word)
 
-    def leaving(self):
+    def leave(self):
         """The break and continue statements between the labels that mean a loop or a switch around the block."""
         begin, end = self.items[self.first]["b"], self.items[self.last]["e"]
-        for it in self.text.nodes:
-            if it["kind"] in ("BreakStmt", "ContinueStmt") and begin <= it["b"] < end:
-                kinds = LOOPS + (("SwitchStmt",) if it["kind"] == "BreakStmt" else ())
-                if not innermost(it, kinds, self.node):
-                    yield it
-
-    def leave(self, statement):
-        self.out = self.out or self.text.name("out")
-        number = 1 if statement["kind"] == "BreakStmt" else 2
-        end = self.text.past(statement)
-        self.text.edit(statement["b"], end, "{ %s = %d; %s = %d; continue; }" % (self.out, number, self.at, self.end))
+        for it in self.text.of("BreakStmt", "ContinueStmt"):
+            kinds = LOOPS + (("SwitchStmt",) if it["kind"] == "BreakStmt" else ())
+            if begin <= it["b"] < end and not innermost(it, kinds, self.node):
+                self.out = self.out or self.text.name("out")
+                words = self.out, 1 if it["kind"] == "BreakStmt" else 2, self.at, self.end
+                self.text.edit(it["b"], self.text.past(it), "{ %s = %d; %s = %d; continue; }" % words)
 
     def hoisted(self):
         """The declarations of what is declared between the labels; where it was declared it is assigned to."""
@@ -155,8 +137,7 @@ class Block:
         if it["kind"] != "VarDecl" or it.get("storageClass"):
             raise Left(it["b"], "a declaration between labels of what is no automatic object")
         spelled, kind = it["type"]["qualType"], self.text.type_of(it)
-        own = kind if "*" not in kind else re.sub(r"^.*\*", "", kind)
-        if re.search(r"\bconst\b", own) or re.search(r"\((unnamed|anonymous)", spelled):
+        if is_const(self.text, it) or re.search(r"\((unnamed|anonymous)", spelled):
             raise Left(it["b"], "a declaration between labels of a const object, or of a type without a name")
         begin = self.items[self.first]["b"]
         names = self.text.ordinary_names_in(begin, it["loc"]["offset"])
@@ -178,20 +159,17 @@ class Block:
         flags = "int %s = 0; " % self.at + ("int %s = 0; " % self.go if self.wrapped else "") + ("int %s = 0; " % self.out if self.out else "")
         after = " case %d: ; } break; }" % self.end
         if self.out:
-            after += " if (%s == 1) break;" % self.out if self.is_within(LOOPS + ("SwitchStmt",)) else ""
-            after += " if (%s == 2) continue;" % self.out if self.is_within(LOOPS) else ""
+            after += " if (%s == 1) break;" % self.out if innermost(self.node, LOOPS + ("SwitchStmt",), self.function) else ""
+            after += " if (%s == 2) continue;" % self.out if innermost(self.node, LOOPS, self.function) else ""
         head = "".join(words) + flags + "for (;;) { switch (%s) { case 0: ; " % self.at
         self.text.edits.insert(0, (begin, -end - 1, -1, end, (head, (begin, end), after)))
-
-    def is_within(self, kinds):
-        return innermost(self.node, kinds, self.function) is not None
 
 
 def blocks_of(text, function):
     """The blocks with labels, the innermost first, each with its labels."""
     found = {}
-    for node in text.nodes:
-        if node["kind"] == "LabelStmt" and text.function_of(node) is function:
+    for node in text.of("LabelStmt"):
+        if text.function_of(node) is function:
             outer = node["up"]
             while outer["kind"] == "LabelStmt":
                 outer = outer["up"]
@@ -202,9 +180,9 @@ def blocks_of(text, function):
 
 
 def apply(text, notes):
-    for function in [it for it in text.tops if it["kind"] == "FunctionDecl"]:
-        with notes.attempt(NAME, text):
-            if any(it["kind"] in ("IndirectGotoStmt", "AddrLabelExpr", "StmtExpr") and text.function_of(it) is function for it in text.nodes):
+    for function in text.functions:
+        with notes.attempt(NAME):
+            if any(text.function_of(it) is function for it in text.of("IndirectGotoStmt", "AddrLabelExpr", "StmtExpr")):
                 raise Left(function["b"], "a computed goto, or a statement in an expression")
             blocks = blocks_of(text, function)
             if blocks:

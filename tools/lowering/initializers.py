@@ -11,7 +11,7 @@ the order changes.
 """
 import re
 
-from lowering.forms import is_constant, strip
+from lowering.forms import is_aggregate, is_constant, strip
 from lowering.text import Left
 
 NAME = "initializers"
@@ -21,16 +21,8 @@ MOST = 65536
 
 def first_members(text):
     """The first member of each union."""
-    firsts = set()
-    for node in text.nodes:
-        if node["kind"] == "RecordDecl" and node.get("tagUsed") == "union":
-            firsts |= {it["id"] for it in [it for it in node["inner"] if it["kind"] == "FieldDecl"][:1]}
-    return firsts
-
-
-def is_aggregate(text, node):
-    spelled = text.type_of(node)
-    return spelled.endswith("]") or re.match(r"(const |volatile )*(struct|union)\b", spelled) is not None and "*" not in spelled
+    members = [[it["id"] for it in node["inner"] if it["kind"] == "FieldDecl"] for node in text.of("RecordDecl") if node["tagUsed"] == "union"]
+    return {it[0] for it in members if it}
 
 
 def lacks_braces(text, node):
@@ -98,14 +90,10 @@ def check(text, node, values, is_static):
 
 def apply(text, notes):
     firsts = first_members(text)
-    for node in text.nodes:
-        if node["kind"] != "VarDecl" or not node.get("init") or not node["inner"]:
-            continue
-        given = node["inner"][-1]
-        if given["kind"] != "InitListExpr" or not lacks_braces(text, given):
-            continue
-        with notes.attempt(NAME, text):
-            written = List(text, given, firsts)
-            check(text, given, written.values, node.get("storageClass") == "static" or node["up"] is text.tree)
-            text.edit(given["b"], given["e"], *written.pieces)
-            notes.used(NAME, given["b"], given["e"])
+    for node in text.of("VarDecl"):
+        given = node["inner"][-1] if node.get("init") and node["inner"] else node
+        if given["kind"] == "InitListExpr" and lacks_braces(text, given):
+            with notes.attempt(NAME, given["b"], given["e"]):
+                written = List(text, given, firsts)
+                check(text, given, written.values, node.get("storageClass") == "static" or node["up"] is text.tree)
+                text.edit(given["b"], given["e"], *written.pieces)

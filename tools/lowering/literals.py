@@ -11,26 +11,13 @@ use); a const literal in a block whose values are no constants; types that the f
 """
 import re
 
-from lowering.forms import around, calls, declare, decays, is_constant, listed, strip, within, writes
+from lowering.forms import around, calls, declare, decays, is_const, is_constant, listed, spelling, strip, unqualified, within, writes
 from lowering.initializers import List, check as check_order, first_members
-from lowering.text import IDENTIFIER, Left
+from lowering.text import Left
 
 NAME = "compound literals"
 BLOCKS = ("IfStmt", "SwitchStmt", "WhileStmt", "DoStmt", "ForStmt")
-WORDS = set("struct union enum const volatile restrict unsigned signed char short int long _Bool void".split())
 ALLOCATING = ("malloc", "calloc")
-
-
-def spelling(text, node, function):
-    """The type as it may be written before the function."""
-    spelled = node["type"]["qualType"]
-    if re.search(r"\((unnamed|anonymous)", spelled):
-        raise Left(node["b"], "a type without a name")
-    names = set(IDENTIFIER.findall(spelled)) - WORDS
-    if function and any(it.get("name") in names and it["kind"] in ("TypedefDecl", "RecordDecl", "EnumDecl") and
-                        text.function_of(it) is function for it in text.nodes):
-        raise Left(node["b"], "a type that a block declares")
-    return spelled
 
 
 def is_plain_number(node):
@@ -79,15 +66,13 @@ class Literal:
         if "{" in text.text[node["b"]:self.list["b"]]:
             raise Left(node["b"], "its type is declared within it")
         self.is_array = text.type_of(node).endswith("]")
-        self.is_const = re.search(r"\bconst\b", text.type_of(node) if "*" not in text.type_of(node) else
-                                  re.sub(r"^.*\*", "", text.type_of(node))) is not None
 
     def write(self):
         if not self.function:
             self.write_static()
         elif not self.is_array and self.is_value():
-            self.text.edit(self.node["b"], self.node["e"], *self.made())
-        elif self.is_const:
+            self.text.edit(self.node["b"], self.node["e"], *self.make(unqualified(self.spelled)))
+        elif is_const(self.text, self.node):
             self.write_const()
         else:
             self.write_object()
@@ -133,23 +118,15 @@ class Literal:
         self.text.before(self.node, "%s { %s }" % (head, body))
         return [self.name + "_make("] + listed(handed.parameters) + [")"]
 
-    def unqualified(self):
-        if "*" in self.spelled:
-            return re.sub(r"\*\s*const$", "*", self.spelled)
-        return re.sub(r"\bconst\b ?", "", self.spelled)
-
-    def made(self):
-        return self.make(self.unqualified())
-
     def write_object(self):
         if self.is_array:
             kind = "struct %s_t" % self.name
-            self.text.before(self.node, "%s { %s; };" % (kind, declare(self.spelled, "all")))
+            self.text.before(self.node, "%s { %s; };" % (kind, declare(self.spelled, self.name + "_all")))
             made = self.make(kind, "{", "}")
-            pieces = ["((%s = " % self.name] + made + [", &%s)->all)" % self.name]
+            pieces = ["((%s = " % self.name] + made + [", &{0})->{0}_all)".format(self.name)]
         else:
             kind = self.spelled
-            pieces = ["(*(%s = " % self.name] + self.made() + [", &%s))" % self.name]
+            pieces = ["(*(%s = " % self.name] + self.make(kind) + [", &%s))" % self.name]
         self.declare(declare(kind, self.name) + ";")
         self.text.edit(self.node["b"], self.node["e"], *pieces)
 
@@ -180,14 +157,11 @@ class Literal:
                 self.text.edit(block["b"], end, "{ ", *pieces, " ", (block["b"], end), " }")
                 return
             inner = outer
-        raise Left(self.node["b"], "no block is around it")
 
 
 def apply(text, notes):
     firsts = first_members(text)
-    literals = [it for it in text.nodes if it["kind"] == "CompoundLiteralExpr"]
     # (within a literal at file scope another one comes first)
-    for node in sorted(literals, key=lambda it: (text.function_of(it) is None) * -it["b"]):
-        with notes.attempt(NAME, text):
+    for node in sorted(text.of("CompoundLiteralExpr"), key=lambda it: (text.function_of(it) is None) * -it["b"]):
+        with notes.attempt(NAME, node["b"]):
             Literal(text, node, firsts).write()
-            notes.used(NAME, node["b"])

@@ -35,13 +35,15 @@ def fits(text, given, parameter):
     characters = re.compile(r"(const )?((un)?signed )?(char|void) \*$")
     if characters.match(have) and characters.match(want):
         return "void" in have + want or have.replace("const ", "") == want.replace("const ", "")
-    return strip(given)["kind"] == "IntegerLiteral" and have.replace("unsigned ", "") == want.replace("unsigned ", "")
+    greatest = {"int": 2147483647, "long": 9223372036854775807, "long long": 9223372036854775807}.get(want.replace("unsigned ", ""), 0)
+    return strip(given)["kind"] == "IntegerLiteral" and have.replace("unsigned ", "") == want.replace("unsigned ", "") and \
+        int(strip(given)["value"]) <= greatest
 
 
-def check_calls(text, name, parameters, is_old):
-    for node, call in uses_of(text, (name,)):
+def check_calls(text, definition, parameters, is_old):
+    for node, call in uses_of(text, (definition["name"],)):
         if not call:
-            raise Left(node["b"], "the address of '%s' is taken" % name)
+            raise Left(node["b"], "the address of '%s' is taken" % definition["name"])
         given = call["inner"][1:]
         if len(given) != len(parameters):
             raise Left(call["b"], "a call with another number of arguments")
@@ -54,51 +56,30 @@ def check_calls(text, name, parameters, is_old):
                     text.edit(it["b"], it["e"], "+(", (it["b"], it["e"]), ")")
 
 
-def is_old_definition(text, function):
-    """Whether the parameters' types stand after the closing parenthesis."""
-    return any(token == ";" for _, token in text.tokens(function["loc"]["offset"], body_of(function)["b"]))
-
-
-def head_of(text, function, parameters):
-    words = []
-    for it in parameters:
-        spelled = it["type"]["qualType"]
-        if re.search(r"\(anonymous|\(unnamed", spelled):
-            raise Left(function["b"], "a parameter's type has no name")
-        words.append(declare(spelled, it["name"]))
-    return "(%s)" % ", ".join(words)
+def head_of(function, parameters):
+    if any(re.search(r"\(anonymous|\(unnamed", it["type"]["qualType"]) for it in parameters):
+        raise Left(function["b"], "a parameter's type has no name")
+    return "(%s)" % ", ".join(declare(it["type"]["qualType"], it["name"]) for it in parameters)
 
 
 def apply(text, notes):
-    functions = [it for it in text.tops if it["kind"] == "FunctionDecl"]
-    for definition in functions:
+    for name, definition in text.defined.items():
         parameters = parameters_of(definition)
-        if not body_of(definition) or not parameters:
-            continue
-        is_old = is_old_definition(text, definition)
-        bare = [it for it in functions if it.get("name") == definition["name"] and it is not definition and
-                re.search(r"\(\)", it["type"]["qualType"])]
-        if not is_old and not bare:
-            continue
-        with notes.attempt(NAME, text):
-            check_calls(text, definition["name"], parameters, is_old)
-            head = head_of(text, definition, parameters)
-            for it in bare + ([definition] if is_old else []):
-                write(text, notes, it, head)
+        # (the parameters' types stand after the closing parenthesis)
+        is_old = any(token == ";" for _, token in text.tokens(definition["loc"]["offset"], body_of(definition)["b"]))
+        bare = [it for it in text.functions if it["name"] == name and it is not definition and "()" in it["type"]["qualType"]]
+        if parameters and (is_old or bare):
+            with notes.attempt(NAME):
+                check_calls(text, definition, parameters, is_old)
+                for it in bare + ([definition] if is_old else []):
+                    write(text, notes, it, head_of(definition, parameters))
 
 
 def write(text, notes, function, head):
-    begin = function["loc"]["offset"] + function["loc"]["tokLen"]
-    tokens = text.tokens(begin, len(text.text))
-    if next(tokens)[1] != "(":
+    begin, body = function["loc"]["offset"] + function["loc"]["tokLen"], body_of(function)
+    found = re.compile(r"\s*\(" if body else r"\s*\(\s*\)").match(text.text, begin)
+    if not found:
         raise Left(function["b"], "its name does not stand before its parameters")
-    if body_of(function):
-        end = body_of(function)["b"]
-    else:
-        at, token = next(tokens)
-        if token != ")":
-            raise Left(function["b"], "its name does not stand before its parameters")
-        end = at + 1
-    text.blank(begin, end)
+    text.blank(begin, body["b"] if body else found.end())
     text.insert(begin, head)
     notes.used(NAME, begin)

@@ -15,13 +15,12 @@ NAME = "what main does not reach"
 TAGS = ("RecordDecl", "EnumDecl", "EnumConstantDecl")
 
 
-def declared_by(node):
-    """The names that an external declaration brings."""
-    names = {node["name"]} if node.get("name") else set()
+def names_of(node):
+    """The names that an external declaration brings: its own, and those of tags and enumerators within tags."""
+    yield node.get("name")
     for it in node["inner"]:
-        if it["kind"] in TAGS or node["kind"] in TAGS and it["kind"] == "FieldDecl":
-            names |= declared_by(it) if it["kind"] in TAGS else set()
-    return names
+        if it["kind"] in TAGS:
+            yield from names_of(it)
 
 
 def spans_of(text):
@@ -44,7 +43,7 @@ def reached_from(spans, names, roots):
     """The numbers of the declarations that declare one of the roots, or a name that stands in one that is reached."""
     by_name = {}
     for index, (_, _, nodes) in enumerate(spans):
-        for name in set().union(*map(declared_by, nodes)):
+        for name in {name for it in nodes for name in names_of(it)}:
             by_name.setdefault(name, []).append(index)
     reached, waiting = set(), list(roots)
     while waiting:
@@ -56,7 +55,7 @@ def reached_from(spans, names, roots):
 
 
 def apply(text, notes):
-    if not any(it["kind"] == "FunctionDecl" and it.get("name") == "main" and body_of(it) for it in text.tops):
+    if "main" not in text.defined:
         return
     spans = spans_of(text)
     names = [set(text.names_in(begin, end)) for begin, end, _ in spans]

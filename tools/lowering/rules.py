@@ -28,8 +28,8 @@ RULES = {
     "func": small.FunctionNames(),
     "values": small.LibraryValues(),
     "switch": small.Switches(),
-    "goto": gotos,
     "variadic": variadic,
+    "goto": gotos,
     "printf": printf,
 }
 
@@ -53,14 +53,17 @@ class Notes:
         self.lines.setdefault(name, {}).setdefault(file[1:-1], []).append((first, max(first, last)))
 
     @contextlib.contextmanager
-    def attempt(self, name, text):
-        """One form: where it is left, the edits made for it are taken back."""
-        count = len(text.edits)
+    def attempt(self, name, *places):
+        """One form, used at these places; where it is left, the edits made for it are taken back."""
+        count = len(self.text.edits)
         try:
             yield
         except Left as left:
-            del text.edits[count:]
+            del self.text.edits[count:]
             self.leave(name, left)
+        else:
+            if places:
+                self.used(name, *places)
 
     def leave(self, name, left):
         sentence = "left: %s: %s: %s" % (name, self.text.shown(left.at), left.reason)
@@ -88,45 +91,36 @@ def joined(spans):
     return ["%d" % first if first == last else "%d-%d" % (first, last) for first, last in done]
 
 
-def ask(name, rule, text, notes):
-    """One rule: what it writes, or the text as it is."""
-    notes.text, lines = text, copy.deepcopy(notes.lines)
+def ask(rule, tree, notes, read):
+    """What one rule writes, read anew; None where it writes nothing, or the rule itself, or clang of what it wrote, says no."""
+    notes.text, lines = tree, copy.deepcopy(notes.lines)
     try:
-        rule.apply(text, notes)
+        rule.apply(tree, notes)
+        return read(tree.render()) if tree.edits else None
     except Left as left:
-        text.edits, notes.lines = [], lines
         notes.leave(rule.NAME, left)
-    except (LookupError, ValueError, TypeError, AttributeError, StopIteration, RecursionError) as error:
+    except Refused as refused:
+        notes.left.append("left: %s: what the rule wrote is refused: %s" % (rule.NAME, refused))
+    except (LookupError, ValueError, TypeError, AttributeError, AssertionError, StopIteration, RecursionError) as error:
         # (a fault of the rule's own leaves the text as it is, and is told)
-        text.edits, notes.lines = [], lines
         notes.left.append("left: %s: the rule itself failed: %r" % (rule.NAME, error))
-    return text.render() if text.edits else text.text
-
-
-def read(text, file, clang):
-    quoted = '"%s"' % re.sub(r'["\\]', lambda it: "\\" + it[0], file)
-    return Text(text, quoted, clang)
+    tree.edits, notes.lines = [], lines
+    return None
 
 
 def lower(text, file, clang, notes, wanted=None):
+    def read(written):
+        return Text(written, '"%s"' % re.sub(r'["\\]', lambda it: "\\" + it[0], file), clang)
+
     try:
-        tree = read(text, file, clang)
+        tree = read(text)
     except Refused as refused:
         notes.left.append("left as it is, since clang says: %s" % refused)
         return text
     for name, rule in RULES.items():
-        if wanted is not None and name not in wanted:
-            continue
-        for _ in range(getattr(rule, "TIMES", 1)):
-            lines, left = copy.deepcopy(notes.lines), list(notes.left)
-            written = ask(name, rule, tree, notes)
-            if written == tree.text:
+        for _ in range(getattr(rule, "TIMES", 1) if wanted is None or name in wanted else 0):
+            written = ask(rule, tree, notes, read)
+            if not written:
                 break
-            try:
-                tree = read(written, file, clang)
-            except Refused as refused:
-                notes.lines, notes.left = lines, left
-                notes.left.append("left: %s: what the rule wrote is refused: %s" % (rule.NAME, refused))
-                tree = read(tree.text, file, clang)
-                break
+            tree = written
     return tree.text

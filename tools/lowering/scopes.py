@@ -24,26 +24,16 @@ def is_moved(node):
     return "TypedefDecl" in kinds and kinds <= {"TypedefDecl", "RecordDecl", "EnumDecl"}
 
 
-def names_declared(node):
-    found, waiting = set(), list(node["inner"])
-    while waiting:
-        it = waiting.pop()
-        if it["kind"] in ("RecordDecl", "EnumDecl"):
-            waiting += [inner for inner in it["inner"] if inner["kind"] in ("RecordDecl", "EnumDecl", "EnumConstantDecl")]
-        if it.get("name"):
-            found.add(it["name"])
-    return found
-
-
 def check(text, node, moved):
     function = text.function_of(node)
     block = next(it for it in around(node) if it["kind"] == "CompoundStmt")
-    mine = names_declared(node)
-    within_block = {name for it in text.nodes if it["kind"] in DECLARING and it.get("name") and text.function_of(it) is function and
-                    it is not function and it["kind"] != "FieldDecl" and not node["b"] <= it["b"] < node["e"] and it["b"] not in moved
-                    for name in (it["name"],)}
+    declared = [it for it in text.of(*DECLARING) if it.get("name")]
+    here = [it for it in declared if node["b"] <= it["b"] < node["e"]]
+    mine = {it["name"] for it in here if it["kind"] not in ("FieldDecl", "ParmVarDecl")}
+    within_block = {it["name"] for it in declared if text.function_of(it) is function and it is not function and
+                    it["kind"] != "FieldDecl" and not node["b"] <= it["b"] < node["e"] and it["b"] not in moved}
     used = Counter(text.names_in(node["b"], node["e"]))
-    used.subtract(it["name"] for it in text.nodes if it["kind"] == "FieldDecl" and it.get("name") and node["b"] <= it["b"] < node["e"])
+    used.subtract(it["name"] for it in here if it["kind"] == "FieldDecl")
     used = set(+used) - mine
     if used & within_block:
         raise Left(node["b"], "it names '%s', which a block declares" % sorted(used & within_block)[0])
@@ -60,18 +50,13 @@ def check(text, node, moved):
 
 
 def apply(text, notes):
-    statements = [it for it in text.nodes if it["kind"] == "DeclStmt" and it["inner"] and is_moved(it)]
-    moved = {inner["b"] for it in statements for inner in it["inner"] if inner["kind"] in ("TypedefDecl", "RecordDecl", "EnumDecl")}
-    for node in text.nodes:
-        if node["kind"] == "DeclStmt" and node not in statements and any(
-                it["kind"] in ("TypedefDecl", "FunctionDecl") or it.get("storageClass") == "extern" for it in node["inner"]):
-            notes.leave(NAME, Left(node["b"], "a declaration of several kinds"))
+    statements = [it for it in text.of("DeclStmt") if it["inner"]]
+    moved = {inner["b"] for it in statements if is_moved(it) for inner in it["inner"] if inner["kind"] in ("TypedefDecl", "RecordDecl", "EnumDecl")}
     for node in statements:
-        with notes.attempt(NAME, text):
-            check(text, node, moved)
-            begin = node["b"]
-            if text.text.startswith("auto ", begin):
-                raise Left(begin, "auto")
-            text.before(node, Raw(node))
-            text.blank(node["b"], node["e"])
-            notes.used(NAME, node["b"])
+        if is_moved(node):
+            with notes.attempt(NAME, node["b"]):
+                check(text, node, moved)
+                text.before(node, Raw(node["b"], node["e"]))
+                text.blank(node["b"], node["e"])
+        elif any(it["kind"] in ("TypedefDecl", "FunctionDecl") or it.get("storageClass") == "extern" for it in node["inner"]):
+            notes.leave(NAME, Left(node["b"], "a declaration of several kinds"))

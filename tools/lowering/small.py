@@ -5,8 +5,10 @@ standard makes a constraint.
 """
 import re
 
-from lowering.forms import body_of, uses_of
-from lowering.text import File, Left
+from lowering.forms import TYPE_WORDS, body_of, declare, parameters_of, spelling, uses_of
+from lowering.text import IDENTIFIER, File, Left
+
+NAMING = ("TypedefDecl", "VarDecl", "ParmVarDecl", "FunctionDecl", "EnumConstantDecl")
 
 
 class Assertions:
@@ -15,13 +17,11 @@ class Assertions:
     NAME = "_Static_assert"
 
     def apply(self, text, notes):
-        for node in text.nodes:
-            if node["kind"] == "StaticAssertDecl":
-                with notes.attempt(self.NAME, text):
-                    if "{" in text.part(node):
-                        raise Left(node["b"], "it declares a type")
-                    text.blank(node["b"], text.past(node))
-                    notes.used(self.NAME, node["b"])
+        for node in text.of("StaticAssertDecl"):
+            with notes.attempt(self.NAME, node["b"]):
+                if "{" in text.part(node):
+                    raise Left(node["b"], "it declares a type")
+                text.blank(node["b"], text.past(node))
 
 
 class Semicolons:
@@ -30,19 +30,14 @@ class Semicolons:
     NAME = "a ; that ends nothing"
 
     def apply(self, text, notes):
-        for node in text.nodes:
-            if node["kind"] == "EmptyDecl":
-                self.drop(text, notes, node["b"])
-            elif node["kind"] == "RecordDecl" and node.get("completeDefinition") and node["up"]["kind"] != "RecordDecl":
-                before = ""
-                for at, token in text.tokens(node["b"], node["e"]):
-                    if token == ";" and before in (";", "{"):
-                        self.drop(text, notes, at)
-                    before = token
-
-    def drop(self, text, notes, at):
-        text.blank(at, at + 1)
-        notes.used(self.NAME, at)
+        places = [it["b"] for it in text.of("EmptyDecl")]
+        for node in text.of("RecordDecl"):
+            if node.get("completeDefinition") and node["up"]["kind"] != "RecordDecl":
+                tokens = list(text.tokens(node["b"], node["e"]))
+                places += [at for (_, before), (at, token) in zip(tokens, tokens[1:]) if token == ";" and before in ";{"]
+        for at in places:
+            text.blank(at, at + 1)
+            notes.used(self.NAME, at)
 
 
 class FunctionNames:
@@ -53,8 +48,8 @@ class FunctionNames:
 
     def apply(self, text, notes):
         names = {}
-        for node in text.nodes:
-            if node["kind"] == "PredefinedExpr" and text.part(node) in ("__func__", "__FUNCTION__"):
+        for node in text.of("PredefinedExpr"):
+            if text.part(node) in ("__func__", "__FUNCTION__"):
                 function = text.function_of(node)
                 if function["id"] not in names:
                     names[function["id"]] = text.name("func")
@@ -70,21 +65,21 @@ class Switches:
     NAME = "a switch without braces"
 
     def apply(self, text, notes):
-        for node in text.nodes:
-            if node["kind"] == "SwitchStmt" and node["inner"][-1]["kind"] != "CompoundStmt":
-                body = node["inner"][-1]
+        for node in text.of("SwitchStmt"):
+            body = node["inner"][-1]
+            if body["kind"] != "CompoundStmt":
                 text.edit(body["b"], text.end_of(body), "{ ", (body["b"], text.end_of(body)), " }")
                 notes.used(self.NAME, body["b"])
 
 
 class Spellings:
-    """Words that GNU C spells in another way, `register` (6.7.1p6: a hint), and `inline` with static or extern (6.7.4p6: a hint). Left:
-    `inline` alone (6.7.4p7: it defines no function for other calls), `typeof` of an expression."""
+    """Words that GNU C spells in another way, `register` (6.7.1p6: a hint; clang looked whether a pointer is made to such an object), and
+    `inline` with static or extern (6.7.4p6: a hint). Left: `inline` alone (6.7.4p7: it defines no function for other calls), `typeof` of an
+    expression."""
 
     NAME = "spellings"
     WORDS = {"__extension__": "", "__const": "const", "__const__": "const", "__signed": "signed", "__signed__": "signed",
              "__volatile": "volatile", "__volatile__": "volatile", "__restrict": "restrict", "__restrict__": "restrict", "register": ""}
-    INLINE = ("inline", "__inline", "__inline__")
 
     def apply(self, text, notes):
         tokens = list(text.tokens(0, len(text.text)))
@@ -92,75 +87,42 @@ class Spellings:
             if token in self.WORDS:
                 text.edit(at, at + len(token), self.WORDS[token])
                 notes.used("%s %s" % (self.NAME, token), at)
-            elif token in self.INLINE:
-                with notes.attempt(self.NAME, text):
-                    self.inline(text, at, token)
-                    notes.used("%s %s" % (self.NAME, token), at)
-            elif token in ("typeof", "__typeof__", "__typeof"):
-                with notes.attempt(self.NAME, text):
-                    self.typeof(text, tokens, index)
-                    notes.used("%s %s" % (self.NAME, token), at)
+            elif token in ("inline", "__inline", "__inline__", "typeof", "__typeof__", "__typeof"):
+                with notes.attempt("%s %s" % (self.NAME, token), at):
+                    (self.typeof if "typeof" in token else self.inline)(text, tokens, index, at, at + len(token))
 
-    def inline(self, text, at, token):
-        top = next((it for it in text.tops if it["b"] <= at < it["e"]), None)
+    def inline(self, text, tokens, index, begin, end):
+        top = next((it for it in text.tops if it["b"] <= begin < it["e"]), None)
         names = {it.get("storageClass") for it in text.tops if top and it.get("name") == top.get("name")}
         if not names & {"static", "extern"}:
-            raise Left(at, "inline without static or extern defines no function for other calls")
-        text.edit(at, at + len(token), "")
+            raise Left(begin, "inline without static or extern defines no function for other calls")
+        text.edit(begin, end, "")
 
-    def typeof(self, text, tokens, index):
+    def typeof(self, text, tokens, index, begin, end):
         """Of a type of words alone; a pointer's would need a name of its own."""
         close = next(it for it in range(index, len(tokens)) if tokens[it][1] == ")")
-        words = [token for _, token in tokens[index + 2:close]]
-        begin, end = tokens[index][0], tokens[close][0] + 1
-        named = {it.get("name") for it in text.nodes if it["kind"] == "TypedefDecl"}
-        basic = "struct union enum const unsigned signed char short int long _Bool void".split()
-        if not all(re.fullmatch(r"[A-Za-z_]\w*", it) for it in words):
+        first, *words = [token for _, token in tokens[index + 2:close]]
+        if not all(IDENTIFIER.fullmatch(it) for it in [first] + words):
             raise Left(begin, "typeof of more than a type's words")
-        if not (words[0] in named or words[0] in basic) or any(it["b"] < begin < it["e"] and it["kind"] in ("VarDecl", "ParmVarDecl")
-                                                                and it.get("name") == words[0] for it in text.nodes):
+        meant = [it["kind"] for it in text.nodes if it.get("name") == first and it["b"] < begin and it["kind"] in NAMING]
+        if set(meant) != {"TypedefDecl"} and first not in TYPE_WORDS:
             raise Left(begin, "typeof of an expression")
-        text.edit(begin, end, "", (tokens[index + 2][0], tokens[close][0]))
+        text.edit(begin, tokens[close][0] + 1, "", (tokens[index + 2][0], tokens[close][0]))
 
 
 class Alignments:
-    """C17 6.5.3.4p3, p5: `_Alignof (type)` is a constant of type size_t, which is unsigned long here."""
+    """C17 6.5.3.4p3, p5: `_Alignof (type)` is a constant of type size_t. So is what a structure of a character and the type (6.7.2.1p14, p15)
+    has more than the type: as many bytes as the type's alignment, of which the sizes of both are multiples."""
 
     NAME = "_Alignof"
-    SIZES = {"_Bool": 1, "char": 1, "short": 2, "int": 4, "long": 8}
 
     def apply(self, text, notes):
-        for node in text.nodes:
-            if node["kind"] == "UnaryExprOrTypeTraitExpr" and text.part(node).startswith("_Alignof"):
-                with notes.attempt(self.NAME, text):
-                    spelled = text.plain(node["argType"].get("desugaredQualType", node["argType"]["qualType"]))
-                    text.edit(node["b"], node["e"], "%dul" % self.of(text, node, spelled))
-                    notes.used(self.NAME, node["b"])
-
-    def of(self, text, node, spelled):
-        spelled = re.sub(r"\bconst\b|\[\d+\]", "", spelled).strip()
-        if spelled.endswith("*") or re.search(r"\(\*", spelled):
-            return 8
-        words = [it for it in spelled.split() if it not in ("unsigned", "signed")]
-        if words and words[0] in ("struct", "union") and len(words) == 2:
-            records = [it for it in text.nodes if it["kind"] == "RecordDecl" and it.get("name") == words[1] and it.get("completeDefinition")]
-            if len(records) == 1:
-                return self.of_record(text, records[0])
-        if words and all(it in self.SIZES for it in words) or not words and spelled:
-            return max([self.SIZES[it] for it in words if it != "int" or len(words) == 1] or [4])
-        raise Left(node["b"], "the alignment of " + spelled)
-
-
-    def of_record(self, text, record):
-        """The greatest of its members'; a member whose type has no tag has its record before it."""
-        greatest, last = 1, None
-        for it in record["inner"]:
-            if it["kind"] == "RecordDecl":
-                last = it
-            elif it["kind"] == "FieldDecl":
-                tagless = last and re.search(r"\((anonymous|unnamed)", it["type"]["qualType"]) and "*" not in it["type"]["qualType"]
-                greatest = max(greatest, self.of_record(text, last) if tagless else self.of(text, it, text.type_of(it)))
-        return greatest
+        for node in text.of("UnaryExprOrTypeTraitExpr"):
+            if text.part(node).startswith("_Alignof"):
+                with notes.attempt(self.NAME, node["b"]):
+                    name, spelled = text.name("alignment"), spelling(text, dict(node, type=node["argType"]), text.function_of(node))
+                    text.before(node, "struct {0} {{ char {0}_first; {1}; }};".format(name, declare(spelled, name + "_last")))
+                    text.edit(node["b"], node["e"], "(sizeof(struct %s) - sizeof(%s))" % (name, spelled))
 
 
 class Promises:
@@ -170,30 +132,22 @@ class Promises:
     NAME = "[static n]"
 
     def apply(self, text, notes):
-        for node in text.nodes:
-            if node["kind"] == "FunctionDecl" and node["b"] >= 0 and not node.get("isImplicit"):
-                end = body_of(node)["b"] if body_of(node) else node["e"]
-                tokens = list(text.tokens(node["loc"]["offset"], end))
+        for function in text.of("FunctionDecl"):
+            for which, parameter in enumerate(it for it in parameters_of(function) if it["b"] >= 0):
+                tokens = list(text.tokens(parameter["b"], parameter["e"]))
                 for index, (at, token) in enumerate(tokens):
                     if token == "static":
-                        with notes.attempt(self.NAME, text):
-                            self.check(text, node, tokens, index)
+                        with notes.attempt(self.NAME, at):
+                            self.check(text, function["name"], which, at, [it for _, it in tokens[index - 1:index + 3]])
                             text.blank(at, at + 6)
-                            notes.used(self.NAME, at)
 
-    def check(self, text, function, tokens, index):
-        at = tokens[index][0]
-        depth, which = 0, 0
-        for _, token in tokens[2:index]:
-            depth += (token in "([") - (token in ")]")
-            which += token == "," and depth == 0
-        size = tokens[index + 1][1]
-        if depth != 1 or tokens[index - 1][1] != "[" or not re.fullmatch(r"[1-9]\d*", size):
+    def check(self, text, name, which, at, tokens):
+        if tokens[0] != "[" or not re.fullmatch(r"[1-9]\d*", tokens[2]) or tokens[3] != "]":
             raise Left(at, "its size is no plain number")
-        for node, call in uses_of(text, (function["name"],)):
+        for node, call in uses_of(text, (name,)):
             if not call or len(call["inner"]) <= which + 1:
                 raise Left(node["b"], "the function is called by a pointer")
-            self.check_argument(text, call["inner"][which + 1], int(size))
+            self.check_argument(text, call["inner"][which + 1], int(tokens[2]))
 
     def check_argument(self, text, given, size):
         at = given["b"]
@@ -222,17 +176,18 @@ class LibraryValues:
 
     def apply(self, text, notes):
         uses = [node for node, call in uses_of(text, self.FUNCTIONS) if not call]
-        for name in sorted({it["referencedDecl"]["name"] for it in uses}):
-            self.write(text, notes, name, [it for it in uses if it["referencedDecl"]["name"] == name])
+        wrappers = {}
+        for node in uses:
+            name = node["referencedDecl"]["name"]
+            if name not in wrappers:
+                wrappers[name] = self.wrapper(text, node, name)
+            text.edit(node["b"], node["e"], wrappers[name])
+            notes.used(self.NAME, node["b"])
 
-    def write(self, text, notes, name, uses):
+    def wrapper(self, text, node, name):
         result, *kinds = self.FUNCTIONS[name]
-        wrapper = text.name(name)
-        given = [text.name("given") for _ in kinds]
+        wrapper, given = text.name(name), [text.name("given") for _ in kinds]
         head = ", ".join("%s %s" % pair for pair in zip(kinds, given)) or "void"
-        body = "%s%s(%s);" % ("" if result == "void" else "return ", name, ", ".join(given))
-        written = "static %s %s(%s) { %s }" % (result, wrapper, head, body)
-        text.insert(text.begin_of_top(uses[0]), File("the library's %s as a value" % name), written, " ")
-        for it in uses:
-            text.edit(it["b"], it["e"], wrapper)
-            notes.used(self.NAME, it["b"])
+        written = "static %s %s(%s) { %s%s(%s); }" % (result, wrapper, head, "" if result == "void" else "return ", name, ", ".join(given))
+        text.insert(text.begin_of_top(node), File("the library's %s as a value" % name), written, " ")
+        return wrapper

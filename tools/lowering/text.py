@@ -8,6 +8,7 @@ import bisect
 import json
 import re
 import subprocess
+from collections import namedtuple
 
 # An extra `;` and `{}` are no C17, and mean nothing else to anyone; the lengths of C17 5.2.4.1 are no constraint.
 FLAGS = ["-pedantic-errors", "-fno-builtin", "-Wno-extra-semi", "-Wno-gnu-empty-initializer", "-Wno-overlength-strings"]
@@ -30,25 +31,9 @@ class Left(Exception):
         self.at, self.reason = at, reason
 
 
-class At:
-    """In the pieces of an edit: from here on the line of this place counts."""
-
-    def __init__(self, at):
-        self.at = at
-
-
-class File:
-    """In the pieces of an edit: from here on stands the first line of a file of this name."""
-
-    def __init__(self, name):
-        self.name = name
-
-
-class Raw:
-    """In the pieces of an edit: a part of the text, without edits."""
-
-    def __init__(self, node):
-        self.begin, self.end = node["b"], node["e"]
+# In the pieces of an edit: from here on the line of this place counts; from here on stands the first line of a file of this name; a part
+# of the text, without edits.
+At, File, Raw = namedtuple("At", "at"), namedtuple("File", "name"), namedtuple("Raw", "begin end")
 
 
 def bare(node):
@@ -82,9 +67,17 @@ class Text:
         self.overridden = [self.lines[int(it[1]) - 1] + int(it[2]) - 1 for it in
                            re.finditer(r"^<stdin>:(\d+):(\d+): warning: initializer.*overrides", said, re.M)]
         self.tree = json.loads(done.stdout)
-        self.nodes, self.by_id = [], {}
+        self.nodes, self.types = [], {}
         self.number(self.tree, None)
         self.tops = [it for it in self.tree.get("inner", []) if it["b"] >= 0 and not it.get("isImplicit")]
+        self.functions = [it for it in self.tops if it["kind"] == "FunctionDecl"]
+        self.defined = {it["name"]: it for it in self.functions if any(inner["kind"] == "CompoundStmt" for inner in it["inner"])}
+        # What each typedef name of the text stands for, where it has one meaning alone. A type without a tag is spelled there as if it had the
+        # name for its tag: so what comes of it says which kind of type it is, and is not written anywhere.
+        for node in self.of("TypedefDecl"):
+            meant = node["type"].get("desugaredQualType", node["type"]["qualType"])
+            meant = node["type"]["qualType"] if meant == node["name"] else meant
+            self.types[node["name"]] = meant if self.types.get(node["name"], meant) == meant else None
 
     def number(self, root, up):
         waiting = [(root, up)]
@@ -97,8 +90,11 @@ class Text:
             # (a filler of the rest of an array stands before the elements that are written)
             node["inner"] = [bare(it) for it in node.get("inner", node.get("array_filler", [])[1:]) if it.get("kind")]
             self.nodes.append(node)
-            self.by_id[node.get("id")] = node
             waiting += [(it, node) for it in reversed(node["inner"])]
+
+    def of(self, *kinds):
+        """The nodes of these kinds, in order."""
+        return [it for it in self.nodes if it["kind"] in kinds]
 
     # ---- places and lines
 
@@ -145,12 +141,6 @@ class Text:
         return [token for before, token in zip([""] + tokens, tokens) if IDENTIFIER.match(token) and
                 before not in ("struct", "union", "enum", ".", "->", "goto")]
 
-    def top_of(self, node):
-        """The external declaration that a node stands in."""
-        while node["up"] is not self.tree:
-            node = node["up"]
-        return node
-
     def function_of(self, node):
         while node and node["kind"] != "FunctionDecl":
             node = node["up"]
@@ -158,7 +148,9 @@ class Text:
 
     def begin_of_top(self, node):
         """Where the external declaration begins; declarators of one declaration begin at one place."""
-        at = self.top_of(node)["b"]
+        while node["up"] is not self.tree:
+            node = node["up"]
+        at = node["b"]
         return min([at] + [it["b"] for it in self.tops if it["b"] <= at < it["e"]])
 
     def name(self, what):
@@ -171,19 +163,6 @@ class Text:
 
     # ---- types
 
-    @property
-    def types(self):
-        """What each typedef name of the text stands for, where it has one meaning alone. A type without a tag is spelled there as if it had
-        the name for its tag: so what comes of it says which kind of type it is, and is not written anywhere."""
-        if not hasattr(self, "typedefs"):
-            self.typedefs = {}
-            for node in self.nodes:
-                if node["kind"] == "TypedefDecl" and node.get("name"):
-                    meant = node["type"].get("desugaredQualType", node["type"]["qualType"])
-                    meant = node["type"]["qualType"] if meant == node["name"] else meant
-                    self.typedefs[node["name"]] = meant if self.typedefs.get(node["name"], meant) == meant else None
-        return self.typedefs
-
     def plain(self, spelled):
         """A type's spelling without typedef names, where they stand for words alone."""
         for _ in range(20):
@@ -191,13 +170,11 @@ class Text:
                           not re.search(r"(?:struct|union|enum) $", spelled[:it.start()])), None)
             if not found:
                 break
-            meant = self.types[found[0]]
-            if meant.endswith("*") and spelled[found.end():].strip(" *const") == "" and "const" not in spelled[:found.start()]:
-                spelled = spelled[:found.start()] + meant + spelled[found.end():]
-            elif re.fullmatch(r"[\w ]+", meant):
-                spelled = spelled[:found.start()] + meant + spelled[found.end():]
-            else:
+            before, meant, after = spelled[:found.start()], self.types[found[0]], spelled[found.end():]
+            is_pointer = meant.endswith("*") and not after.strip(" *const") and "const" not in before
+            if not is_pointer and not re.fullmatch(r"[\w ]+", meant):
                 break
+            spelled = before + meant + after
         return re.sub(r"\benum \w+(?=\s*($|\*))", "int", spelled)
 
     def type_of(self, node):
