@@ -208,7 +208,8 @@ CONVERSIONS = ["%5d", "%-6d", "%05d", "%+d", "% d", "%.3d", "%8.4d", "%#x", "%X"
 def shown(conversion, number, width):
     """What a conversion makes of a number (7.21.6.1), and its arguments, each with its type."""
     flags, length, letter = re.fullmatch(r"%([-+ #0]*[*\d]*(?:\.[*\d]+)?)(hh|h|ll|l|j|z|t)?(\w)", conversion).groups()
-    kind = ("unsigned " if letter in "uxXo" else "") + {"l": "long", "ll": "long long", "j": "long", "z": "long", "t": "long"}.get(length, "int")
+    # (an unsigned short is promoted to int: 6.3.1.1p2)
+    kind = ("unsigned " if letter in "uxXo" and length not in ("hh", "h") else "") + {"l": "long", "ll": "long long", "j": "long", "z": "long", "t": "long"}.get(length, "int")
     stars = (width,) * flags.count("*")
     given = [("int", "%d" % it) for it in stars] + [(kind, "(%s)%d" % (kind, number))]
     if letter == "c":
