@@ -13,7 +13,7 @@ use Rattle.pv_serve.specs.Judged.{Fit}
 use Rattle.pv_serve.specs.Judging.{Shown, nothing_shown, ending_of, verdict_of}
 use Rattle.pv_serve.specs.Verdicts as verdict
 use Rattle.pv_serve.specs.Loading.{refusal_of}
-use Rattle.pv_serve.specs.Report.{report_line, status_of}
+use Rattle.pv_serve.specs.ReportParts.{report_line, status_of}
 use Rattle.pv_serve.specs.Settling.{SomeRunBy, IsRan, IsOutcome}
 use Rattle.pv_serve.specs.Outside.{Sunk, Halls}
 use Rattle.pv_journal.specs.Obeying.{IsJournal}

@@ -3,9 +3,9 @@ use Rattle.std.specs.Prelude.{◌≡◌, ℕ, ◌≤◌, ◌<◌, List, [], ◌�
 use Rattle.std.specs.Fmt.{decimal}
 use Rattle.pv_watch.specs.Texts as watched
 use Rattle.pv_serve.specs.declared.words.Task.TheVariants as task
-use Rattle.pv_serve.specs.Verdicts.{Verdict, Course, course_of}
+use Rattle.pv_serve.specs.Verdicts.{Verdict, Course}
 use Rattle.pv_serve.specs.Judged.{Judged}
-use Rattle.pv_serve.specs.Report.{report_line, status_of, line_feed}
+use Rattle.pv_serve.specs.Report.{answer_of, line_feed}
 use Rattle.pv_serve.specs.Outside.{AnyRose}
 use Rattle.pv_serve.specs.Answer.{OfFiles, files_read}
 use Rattle.pv_serve.specs.Replies.{Reply, Service}
@@ -27,7 +27,7 @@ written_by refused (Some c) = record { status = 0; text = watched.journal_text (
 
 -- 5.1.1.3p1, 5.1.2.3: what is written by the verdict: of a refusal its line, with its status
 abbrev pub written_of : Verdict → Reply
-written_of v = written_by (record { status = status_of v; text = report_line v }) (course_of v)
+written_of v = written_by (record { status = (answer_of v).status; text = (answer_of v).line }) (answer_of v).course
 
 -- 5.1.2.3: the reply is that to the run of a source with this script, with so many turns at most, with a pointer to what has ended indeterminate
 -- (6.2.4p2), and each pair of candidates settled late (the memory model); or to the first refusal (5.1.1.3p1)

@@ -37,7 +37,7 @@ struct Options<'a> {
 
 /// What the words ask for, if they do: `write FILE` with the options `--script F` and `--turns N`, each at most once, in any order, or
 /// `check FILE`.
-pub fn job_asked(words: &[String]) -> Option<Asked<'_>>
+pub(crate) fn job_asked(words: &[String]) -> Option<Asked<'_>>
     ensures words { IsAsked result (specified.job (texts words.now)) }
     ensures turns { IfSome result IsBounded }
 {

@@ -5,7 +5,7 @@ ghost use Rattle.pv_watch.specs.Kinds.{journal_kind};
 ghost use Rattle.pv_watch.specs.Halls.{hall_slots};
 ghost use Rattle.pv_serve.specs.ReadWords.{IsBound};
 ghost use Rattle.pv_serve.specs.Judging.{Shown, verdict_of};
-ghost use Rattle.pv_serve.specs.Report.{report_line, status_of};
+ghost use Rattle.pv_serve.specs.ReportParts.{report_line, status_of};
 ghost use Rattle.pv_serve.specs.Replying.{reply_view, IsOwn};
 ghost use Rattle.pv_serve.specs.Settling.{IsOutcome};
 ghost use Rattle.pv_serve.specs.Outside.{Sunk, Halls};
@@ -20,7 +20,7 @@ const WRITTEN: u8 = 0;
 
 /// Runs a source with its script before the watcher in the hall, with at most so many turns: its journal, of lines that obey, or the line of
 /// the refusal. What the run prints is dropped. The only error is want of memory.
-pub fn journal_of(
+pub(crate) fn journal_of(
     alloc: Global,
     text: &JobText,
     turns: u64,

@@ -12,7 +12,7 @@ use Rattle.pv_serve.specs.declared.words.Task.{Task}
 use Rattle.pv_serve.specs.declared.judging.Judgement.{Judgement}
 use Rattle.pv_serve.specs.declared.judging.Judgement.TheVariants as judgement
 use Rattle.std.specs.declared.alloc.AllocError.{AllocError}
-use Rattle.pv_serve.specs.Verdicts.{Verdict, Course, course_of}
+use Rattle.pv_serve.specs.Verdicts.{Verdict, Course}
 use Rattle.pv_serve.specs.VerdictParts.{BeganOutput}
 use Rattle.pv_serve.specs.Jobs.{Job, FileJob, Files, Generated, task_of, sides_of, watched_of, kinds_of}
 use Rattle.pv_serve.specs.Words.{job, generator_count, file_job}
@@ -20,19 +20,18 @@ use Rattle.pv_serve.specs.WordParts.{either}
 use Rattle.pv_serve.specs.Comes.{source_limit}
 use Rattle.pv_serve.specs.Judged.{Judged, SomeRun, script_limit}
 use Rattle.pv_serve.specs.Outside.{AnyRose, Sunk, SinkRose, Wrote, WrotePrefix, Halls}
-use Rattle.pv_serve.specs.Owed.{Table}
 use Rattle.pv_serve.specs.Replying.{IsHanded}
 use Rattle.pv_serve.specs.Judging.{Shown, verdict_of, IsJudged, IsCutOff}
-use Rattle.pv_serve.specs.Report.{report_line, status_of}
+use Rattle.pv_serve.specs.Report.{Answer, answer_of}
 use Rattle.pv_serve.specs.Watching.{AreTold, IsReport, kept_by}
-use Rattle.pv_serve.specs.Answer.{Answer, answer_of, read_fault, HasReport, OfSource, script_needed, SomeVerdict, SomeAnswer, SomeEnd, script_held, files_of}
-use Rattle.pv_serve.specs.ReportParts.{no_job, words_line, fault_line}
+use Rattle.pv_serve.specs.Answer.{read_fault, HasReport, OfSource, script_needed, SomeVerdict, SomeAnswer, SomeEnd, script_held, files_of}
+use Rattle.pv_serve.specs.ReportParts.{course_of, fault_line, no_job, report_line, status_of, words_line}
 use Rattle.pv_serve.specs.Causes.{Call, IsAnswer, WroteReport, WroteOutput, facts_of, Served, slots_of_job}
 use Rattle.pv_serve.specs.Serving.{kept_halls, IsSource, IsReportOn, HasStory, SomeReport, Reported, IsTold, Answered, FilesServed, WereRead, WereLost, HadNoRoom}
 use Rattle.pv_serve.proofs.LateLemmas.{right_of}
 use Rattle.pv_serve.proofs.Limits.{more_decides, more_runs}
 use Rattle.pv_serve.proofs.RunLemmas.{nothing, printed_part}
-use Rattle.pv_serve.proofs.OwedLemmas.{is_some, owed_by, owed_by_nothing, owed_by_fault, owed_by_words, none_failed}
+use Rattle.pv_serve.proofs.OwedLemmas.{Table, is_some, owed_by, owed_by_nothing, owed_by_fault, owed_by_words, none_failed}
 
 -- ---- the answer to a source, from its judgement and the report on that
 
@@ -212,10 +211,7 @@ table_of_answer c j source script e is r = record {
   );
   no_memory = λ h. (
     is_some (job c.words) j e,
-    record {
-      out = elim (r.printed h) [ inl none ↦ inl none | inr p ↦ inr (some_end c.words c.held j source script (BeganOutput c.out) e is p) ];
-      report = r.no_memory h;
-    },
+    (elim (r.printed h) [ inl none ↦ inl none | inr p ↦ inr (some_end c.words c.held j source script (BeganOutput c.out) e is p) ], r.no_memory h),
   );
   every_other = λ not11 not12 not13. some_asked c.words c.held j source script (IsTold c.out c.report (halls_of c) c.status) (IsAnswer c)
       (λ a w. record { status = w.status_is; out = w.output; report = w.whole }) e is (r.told not12 not13);
@@ -257,7 +253,7 @@ served_by_fault c j e rose same stays handed =
 
 -- a call for whose files there was no memory
 pub served_by_nothing : (c : Call) (j : Job) → job c.words ≡ Some j → c.status ≡ 13 → c.out.new ≡ c.out.old → c.report.new ≡ c.report.old → Served c
-served_by_nothing c j e is same kept = owed_by_nothing (facts_of c) j c.status e is (record { out = inl (nothing c.out same); report = nothing c.report kept })
+served_by_nothing c j e is same kept = owed_by_nothing (facts_of c) j c.status e is (inl (nothing c.out same), nothing c.report kept)
 
 -- words that are no job
 pub served_by_words : (c : Call) → job c.words ≡ None → c.out.new ≡ c.out.old → c.hall.new ≡ c.hall.old → IsHanded c.report c.status (record { status = 10; text = words_line }) → Served c

@@ -4,7 +4,7 @@ use Rattle.std.specs.Prelude.{Option, Some, None, IsSome, IsNone, IsSomeAnd}
 use Rattle.std.proofs.lemmas.Bool.{cases_eq}
 use Rattle.pv_script.specs.Outside.{Rose}
 use Rattle.pv_serve.specs.Outside.{AnyRose}
-use Rattle.pv_serve.specs.Owed.{Facts, Table, Complete, Owed}
+use Rattle.pv_serve.specs.Owed.{Facts, Owed}
 
 pub two_apart : (n a b : ℕ) → a < b → n ≡ a → n ≡ b → ⊥
 two_apart n a b lt p q = omega arith
@@ -17,24 +17,35 @@ is_none : {J : Type 0} (o : Option J) (j : J) → o ≡ Some j → IsNone o → 
 is_none None j e n = cc
 is_none (Some i) j e n = cc
 
+-- what each status says
+pub record Table {J : Type 0} (f : Facts J) (status : ℕ) : Type 0 where
+  pub read_fault : status ≡ 11 → f.ReadFailed × f.FaultTold
+  pub write_fault : status ≡ 12 → f.WriteFailed × (f.AnswerBegun ⊎ (f.ReadFailed × f.FaultBegun))
+  pub no_memory : status ≡ 13 → IsSome f.job × f.Unreported
+  pub every_other : status ≢ 11 → status ≢ 12 → status ≢ 13 → f.Answered
+
 complete_of : {J : Type 0} (f : Facts J) (status : ℕ) → Table f status → (status ≡ 11) ⊎ (status ≢ 11) → (status ≡ 12) ⊎ (status ≢ 12) → (status ≡ 13) ⊎ (status ≢ 13)
-    → Complete f status
+    → ¬ f.ReadFailed → ¬ f.WriteFailed → (status ≡ 13) ⊎ f.Answered
 complete_of f status t (inl is11) b d read write = absurd (read (t.read_fault is11).0)
 complete_of f status t (inr not11) (inl is12) d read write = absurd (write (t.write_fault is12).0)
 complete_of f status t (inr not11) (inr not12) (inl is13) read write = inl is13
 complete_of f status t (inr not11) (inr not12) (inr not13) read write = inr (t.every_other not11 not12 not13)
 
 -- completeness follows from the table
-complete : {J : Type 0} (f : Facts J) (status : ℕ) → Table f status → Complete f status
-complete f status t = complete_of f status t (cases_eq status 11) (cases_eq status 12) (cases_eq status 13)
+owed : {J : Type 0} (f : Facts J) (status : ℕ) → Table f status → (status ≡ 10 → IsNone f.job) → (IsNone f.job → (status ≡ 10) ⊎ ((status ≡ 12) × f.ReportFailed)) → Owed f status
+owed f status t words none = record {
+  read_fault = t.read_fault;
+  write_fault = t.write_fault;
+  no_memory = t.no_memory;
+  every_other = t.every_other;
+  words = words;
+  no_job = none;
+  complete = complete_of f status t (cases_eq status 11) (cases_eq status 12) (cases_eq status 13);
+}
 
 -- a call that asks for a job, by its table and by its status, which is none of words that are no job
 pub owed_by : {J : Type 0} (f : Facts J) (j : J) (status : ℕ) → f.job ≡ Some j → Table f status → status ≢ 10 → Owed f status
-owed_by f j status e t not10 = record {
-  table = t;
-  words = record { only = λ h. absurd (not10 h); no_job = λ n. absurd (is_none f.job j e n) };
-  complete = complete f status t;
-}
+owed_by f j status e t not10 = owed f status t (λ h. absurd (not10 h)) (λ n. absurd (is_none f.job j e n))
 
 -- a call for whose job there was no memory
 pub owed_by_nothing : {J : Type 0} (f : Facts J) (j : J) (status : ℕ) → f.job ≡ Some j → status ≡ 13 → f.Unreported → Owed f status
@@ -79,11 +90,7 @@ owed_by_words f status e told lost =
       no_memory = λ h. absurd (two_apart status 10 13 (omega arith) (told (λ k. two_apart status 12 13 (omega arith) k h)).0 h);
       every_other = λ not11 not12 not13. (told not12).1;
     } in
-    record {
-      table = t;
-      words = record { only = λ h. none_is f.job e; no_job = λ n. ten_or_twelve status f.Answered f.ReportFailed (cases_eq status 12) told (λ h. (lost h).1) };
-      complete = complete f status t;
-    }
+    owed f status t (λ h. none_is f.job e) (λ n. ten_or_twelve status f.Answered f.ReportFailed (cases_eq status 12) told (λ h. (lost h).1))
 
 -- ---- devices that never fail
 

@@ -2,11 +2,10 @@
 use Rattle.std.proofs.Common.{◌≡◌, ◌≢◌, ◌⊎◌, ℕ, ◌<◌, inl, inr, refl, sym, ◌∙◌, subst, arith}
 use Rattle.std.specs.Prelude.{Option, Some, None, IsSomeAnd}
 use Rattle.pv_serve.specs.Outside.{Sunk, SinkRose}
-use Rattle.pv_serve.specs.Owed.{Table}
 use Rattle.pv_serve.specs.Replies.{ReplyCall, Reply, Service, IsReplyTo, SomeReply, IsReplied, IsBegun, facts_of, Replied, no_job, read_fault}
 use Rattle.pv_serve.specs.Replying.{IsOwn, IsHanded, JobReplied, WasTold, WasLost, HadNoRoom}
 use Rattle.pv_serve.proofs.RunLemmas.{nothing}
-use Rattle.pv_serve.proofs.OwedLemmas.{two_apart, owed_by, owed_by_nothing, owed_by_fault, owed_by_words, none_failed}
+use Rattle.pv_serve.proofs.OwedLemmas.{Table, two_apart, owed_by, owed_by_nothing, owed_by_fault, owed_by_words, none_failed}
 
 replied : (c : ReplyCall) (reply : Reply) → IsHanded c.report c.status reply → c.status ≢ 12 → IsReplied c reply
 replied c reply handed not12 = record { status = (handed.told not12).0; report = (handed.told not12).1 }

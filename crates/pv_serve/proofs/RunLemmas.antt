@@ -31,7 +31,8 @@ use Rattle.pv_serve.specs.declared.words.Task.TheVariants as task
 use Rattle.pv_serve.specs.declared.judging.Judgement.{Judgement}
 use Rattle.pv_serve.specs.declared.judging.Judgement.TheVariants as judgement
 use Rattle.pv_serve.specs.ReadWords.{IsTask}
-use Rattle.pv_serve.specs.Verdicts.{Verdict, Ending, Settled, Described, Course, course_of, output_of}
+use Rattle.pv_serve.specs.Verdicts.{Verdict, Ending, Settled, Described, Course}
+use Rattle.pv_serve.specs.ReportParts.{course_of, output_of}
 use Rattle.pv_serve.specs.VerdictParts.{BeganOutput}
 use Rattle.pv_serve.specs.Readings.{Program}
 use Rattle.pv_serve.specs.Comes.{Comes, source_limit}

@@ -4,7 +4,7 @@ use Rattle.std.specs.Prelude.{Option, Some, None, option_and_then, String, strin
 use Rattle.std.proofs.lemmas.List.{take_all}
 use Rattle.std.specs.declared.alloc.Global.{Global}
 use Rattle.pv_serve.specs.declared.words.Mode.{Mode}
-use Rattle.pv_serve.specs.Words.{Options, options, with_option, texts}
+use Rattle.pv_serve.specs.Words.{Options, options, with_option, texts, file_job}
 
 rest_is : (v w : String Global) (rest : List (String Global)) → take (length (v ∷ w ∷ rest) - 2) rest ≡ rest
 rest_is v w rest = take_all (length (v ∷ w ∷ rest) - 2) rest (omega arith)
@@ -25,3 +25,9 @@ pub one_left : (m : Mode) (o : Options) (ws : List (String Global)) → 1 ≤ le
 one_left m o [] some few = absurd (omega arith)
 one_left m o (w ∷ []) some few = refl
 one_left m o (w ∷ v ∷ rest) some few = absurd (omega arith)
+
+-- fewer than two words name no file
+pub no_file_named : (ws : List (String Global)) → length ws < 2 → file_job (texts ws) ≡ None
+no_file_named [] few = refl
+no_file_named (w ∷ []) few = refl
+no_file_named (w ∷ v ∷ rest) few = absurd (omega arith)

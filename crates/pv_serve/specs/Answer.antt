@@ -6,28 +6,16 @@ use Rattle.pv_gen.specs.Source.{source_text}
 use Rattle.pv_eval.specs.States.{State}
 use Rattle.pv_serve.specs.declared.words.Task.{Task}
 use Rattle.pv_serve.specs.Jobs.{Job, Files, Generated, task_of, sides_of}
-use Rattle.pv_serve.specs.Verdicts.{Verdict, Course, course_of, output_of}
+use Rattle.pv_serve.specs.Verdicts.{Verdict}
 use Rattle.pv_serve.specs.Comes.{source_limit}
 use Rattle.pv_serve.specs.Judged.{Judged, SomeRun}
 use Rattle.pv_serve.specs.LateSettling.{SettlesRight}
-use Rattle.pv_serve.specs.Report.{status_of, report_line, line_feed}
+use Rattle.pv_serve.specs.Report.{Answer, answer_of, line_answer, line_feed}
 use Rattle.pv_serve.specs.Watching.{AreTold, IsReport}
-
--- 7.22.4.4p5: the status that the program ends with, what it prints (5.1.2.3p6), the line of its report (docs/FORMATS.md), and the run that it
--- tells of, if it is one's
-pub record Answer : Type 0 where
-  pub status : ℕ
-  pub out : List ℕ
-  pub line : List ℕ
-  pub course : Option Course
-
--- 5.1.1.3p1, 5.1.2.3: the answer to a verdict
-abbrev pub answer_of : Verdict → Answer
-answer_of verdict = record { status = status_of verdict; out = output_of verdict; line = report_line verdict; course = course_of verdict }
 
 -- docs/FORMATS.md, The report (5.1.1.3p1, 7.21.8.1p3): the answer where a file that the words name could not be read
 abbrev pub read_fault : Answer
-read_fault = record { status = 11; out = []; line = codes "fault read" ++ line_feed; course = None }
+read_fault = line_answer 11 (codes "fault read" ++ line_feed)
 
 -- docs/FORMATS.md, What watchers say (the memory model): those who watch were told of the answer, and of its report, their texts behind its line, P holds
 pub record HasReport (kept new : List Slot) (a : Answer) (P : List ℕ → Type 0) : Type 0 where
@@ -59,8 +47,7 @@ files_of (Generated n) held = []
 
 -- docs/FORMATS.md, Scripts of addresses (the memory model): the bytes of the script that a job names, where they are told; one that names none has none
 abbrev pub script_held : Option (List ℕ) → (held : List ℕ → Option (List ℕ)) → Option (List ℕ)
-script_held None held = Some []
-script_held (Some name) held = held name
+script_held script held = option_map_or held script (Some [])
 
 -- docs/FORMATS.md, Words (5.1.2.2.1p2): of the source in a file and its script, where they are told, P holds; nothing is said where a file that is needed isn't told
 abbrev pub OfFiles : (file : List ℕ) (script : Option (List ℕ)) (held : List ℕ → Option (List ℕ)) → ((source text : List ℕ) → Type 0) → Type 0
@@ -73,7 +60,7 @@ OfSource (Generated number) held P = P (source_text number) []
 
 -- 5.1.1.3p1, 5.1.2.3: there is an answer to the job, and of it P holds; one to words that are no job, too (docs/FORMATS.md, Words; 5.1.2.2.1p2)
 abbrev pub SomeAnswer : Option Job → (held : List ℕ → Option (List ℕ)) → (Answer → Type 0) → Type 0
-SomeAnswer None held P = P (record { status = 10; out = []; line = codes "words" ++ line_feed; course = None })
+SomeAnswer None held P = P (line_answer 10 (codes "words" ++ line_feed))
 SomeAnswer (Some job) held P = OfSource job held (λ source script. SomeVerdict source script (task_of job) (sides_of job) P)
 
 -- 5.1.2.3: the job is a run, and of the state in which it ends P holds

@@ -11,7 +11,8 @@ use Rattle.pv_serve.specs.Words.{job}
 use Rattle.pv_serve.specs.Outside.{AnyRose, Sunk, SinkRose, Wrote, WrotePrefix, Halls}
 use Rattle.pv_serve.specs.Owed.{Facts, Owed}
 use Rattle.pv_serve.specs.Watching.{kept_by}
-use Rattle.pv_serve.specs.Answer.{Answer, HasReport, SomeAnswer, SomeEnd, files_of, read_fault}
+use Rattle.pv_serve.specs.Report.{Answer}
+use Rattle.pv_serve.specs.Answer.{HasReport, SomeAnswer, SomeEnd, files_of, read_fault}
 
 -- 5.1.2.3p7: one call: its words (5.1.2.2.1p2), what the files hold under each name (7.21.3p8) with the counts of reads that failed (7.21.8.1p3),
 -- the two sinks, those who watch, and the status (7.22.4.4p5)
@@ -46,14 +47,9 @@ pub record WroteOutput (out report : Sunk) (kept new : List Slot) (end : State) 
   pub part : ToldPart (record { sink = out.old; hall = kept }) (record { sink = out.new; hall = new }) end names
   pub nothing : Wrote report []
 
--- docs/FORMATS.md, The report (5.1.2.3p7): where memory ran out: a first part of the output (7.21.3p3) was written, and of the report nothing; of the
--- hall nothing is said
-pub record WroteNoReport (c : Call) : Type 0 where
-  pub out : Wrote c.out [] ⊎ SomeEnd (job c.words) c.held (λ end names. WrotePrefix c.out end.output)
-  pub report : Wrote c.report []
-
 -- 5.1.2.3p7: what is so of a call. A read that failed (7.21.8.1p3) is one of a file that is read for the job. Where a write failed, that of the report began
--- an answer, and that of the output cut off a run.
+-- an answer, and that of the output cut off a run. Where memory ran out, a first part of the output (7.21.3p3) was written, and of the report nothing; of the
+-- hall nothing is said.
 abbrev pub facts_of : Call → Facts Job
 facts_of c = record {
   job = job c.words;
@@ -65,7 +61,7 @@ facts_of c = record {
       ⊎ SomeEnd (job c.words) c.held (WroteOutput c.out c.report (slots_of_job c) c.hall.new);
   FaultTold = IsAnswer c read_fault;
   FaultBegun = WroteReport c.out c.report (slots_of_job c) c.hall.new read_fault;
-  Unreported = WroteNoReport c;
+  Unreported = (Wrote c.out [] ⊎ SomeEnd (job c.words) c.held (λ end names. WrotePrefix c.out end.output)) × Wrote c.report [];
 }
 
 -- 5.1.2.3p7: all that a call owes to its outside

@@ -14,7 +14,8 @@ use Rattle.pv_exec.specs.Outlets.{ToldPart}
 use Rattle.pv_serve.specs.declared.words.Task.{Task}
 use Rattle.pv_serve.specs.declared.judging.Judgement.{Judgement}
 use Rattle.pv_serve.specs.declared.judging.Judgement.TheVariants as judgement
-use Rattle.pv_serve.specs.Verdicts.{Verdict, Ending, Ended, Settled, Described, Refused, Script, course_of, output_of}
+use Rattle.pv_serve.specs.Verdicts.{Verdict, Ending, Ended, Settled, Described, Refused, Script}
+use Rattle.pv_serve.specs.ReportParts.{course_of, output_of}
 use Rattle.pv_serve.specs.VerdictParts.{BeganOutput}
 use Rattle.pv_serve.specs.Loading.{refusal_of}
 use Rattle.pv_serve.specs.Judged.{Judged, Plan, plan_of, SomeRun, UnitGives, IsRunBy}

@@ -17,26 +17,15 @@ pub record Facts (J : Type 0) : Type 1 where
   pub FaultBegun : Type 0
   pub Unreported : Type 0
 
--- docs/FORMATS.md: what each status says (7.22.4.4p5): 11: a read failed, and `fault read` is the report; 12: a write failed, that of the answer or of
--- `fault read`; 13: memory ran out, and there is no report; any other: the specified answer. The last row holds whatever failed.
-pub record Table {J : Type 0} (f : Facts J) (status : ℕ) : Type 0 where
+-- 5.1.2.3p7: all that a call owes to its outside (docs/FORMATS.md). What each status says (7.22.4.4p5): 11: a read failed, and `fault read` is the report;
+-- 12: a write failed, that of the answer or of `fault read`; 13: memory ran out, and there is no report; any other: the specified answer, whatever failed.
+-- Status 10 comes exactly where the words are no job (5.1.2.2.1p2), whatever the files tell; in its place 12, where `words` can't be written. Where no read
+-- and no write failed, the answer is the specified one, with all its bytes (5.1.2.3p6), or memory ran out.
+pub record Owed {J : Type 0} (f : Facts J) (status : ℕ) : Type 0 where
   pub read_fault : status ≡ 11 → f.ReadFailed × f.FaultTold
   pub write_fault : status ≡ 12 → f.WriteFailed × (f.AnswerBegun ⊎ (f.ReadFailed × f.FaultBegun))
   pub no_memory : status ≡ 13 → IsSome f.job × f.Unreported
   pub every_other : status ≢ 11 → status ≢ 12 → status ≢ 13 → f.Answered
-
--- docs/FORMATS.md, Words (5.1.2.2.1p2): status 10 comes exactly where the words are no job, whatever the files tell; in its place 12, where `words` can't be
--- written
-pub record WordsDecide {J : Type 0} (f : Facts J) (status : ℕ) : Type 0 where
-  pub only : status ≡ 10 → IsNone f.job
+  pub words : status ≡ 10 → IsNone f.job
   pub no_job : IsNone f.job → (status ≡ 10) ⊎ ((status ≡ 12) × f.ReportFailed)
-
--- 5.1.2.3p6: where no read and no write failed, the answer is the specified one, with all its bytes, or memory ran out
-abbrev pub Complete : {J : Type 0} → Facts J → (status : ℕ) → Type 0
-Complete f status = ¬ f.ReadFailed → ¬ f.WriteFailed → (status ≡ 13) ⊎ f.Answered
-
--- 5.1.2.3p7: all that a call owes to its outside
-pub record Owed {J : Type 0} (f : Facts J) (status : ℕ) : Type 0 where
-  pub table : Table f status
-  pub words : WordsDecide f status
-  pub complete : Complete f status
+  pub complete : ¬ f.ReadFailed → ¬ f.WriteFailed → (status ≡ 13) ⊎ f.Answered

@@ -5,7 +5,6 @@ use Rattle.pv_gen.specs.Source.{source_text}
 use Rattle.pv_serve.specs.declared.words.Task.{Task}
 use Rattle.pv_serve.specs.declared.judging.Judgement.{Judgement}
 use Rattle.pv_serve.specs.Jobs.{Job, FileJob, Files, Generated}
-use Rattle.pv_serve.specs.Verdicts.{course_of}
 use Rattle.pv_serve.specs.VerdictParts.{BeganOutput}
 use Rattle.pv_serve.specs.Comes.{source_limit}
 use Rattle.pv_serve.specs.Judged.{script_limit, SomeRun}
@@ -13,9 +12,10 @@ use Rattle.pv_serve.specs.Outside.{AnyRose, Sunk, SinkRose, Wrote, WrotePrefix, 
 use Rattle.pv_serve.specs.Judging.{Shown, verdict_of}
 use Rattle.pv_serve.specs.Replies.{read_fault}
 use Rattle.pv_serve.specs.Replying.{IsHanded}
-use Rattle.pv_serve.specs.Report.{status_of, report_line}
+use Rattle.pv_serve.specs.Report.{Answer}
+use Rattle.pv_serve.specs.ReportParts.{course_of, report_line, status_of}
 use Rattle.pv_serve.specs.Watching.{IsReport, kept_by}
-use Rattle.pv_serve.specs.Answer.{Answer, HasReport, OfFiles, SomeVerdict, files_read}
+use Rattle.pv_serve.specs.Answer.{HasReport, OfFiles, SomeVerdict, files_read}
 use Rattle.pv_serve.specs.Causes.{WroteReport, WroteOutput}
 
 -- docs/FORMATS.md, What watchers say (the memory model): the hall once those whom the job keeps are kept, and as the call leaves it

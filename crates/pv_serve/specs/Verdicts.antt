@@ -1,5 +1,5 @@
 -- What a source with a script may come to.
-use Rattle.std.specs.Prelude.{ℕ, Bool, List, Option, Some, None, []}
+use Rattle.std.specs.Prelude.{ℕ, Bool, List}
 use Rattle.pv_script.specs.declared.scripts.ScriptError.{ScriptError}
 use Rattle.pv_watch.specs.declared.event.Event.{Event}
 use Rattle.pv_exec.specs.declared.outcome.Outcome.{Outcome}
@@ -43,14 +43,3 @@ pub data Verdict : Type 0 where
 pub record Course : Type 0 where
   pub events : List Event
   pub names : List (List ℕ)
-
--- 5.1.2.3: what is told of the run that a verdict is the end of; a source that is refused or described has none, and a settled run has nobody who watches
-abbrev pub course_of : Verdict → Option Course
-course_of (Ended e bound) = Some (record { events = e.events; names = e.names })
-course_of _ = None
-
--- 5.1.2.3p6: what a run printed; nothing else prints
-abbrev pub output_of : Verdict → List ℕ
-output_of (Ended e bound) = e.output
-output_of (Settled e bound listed) = e.output
-output_of _ = []

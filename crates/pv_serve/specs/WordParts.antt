@@ -2,6 +2,7 @@
 use Rattle.pv_script.specs.Words.{number_to}
 use Rattle.pv_serve.specs.Words.{file_name, Options, once, zap_of, sides_in, are_sides, one_more, no_options, run_by, options, settled_by}
 use Rattle.pv_serve.specs.Jobs.{FileJob, Files, Generated, Job}
+use Rattle.pv_serve.specs.declared.words.Watched.{Watched}
 use Rattle.pv_serve.specs.declared.words.Mode.TheVariants as whose
 use Rattle.std.specs.Prelude.{List, ℕ, Option, Bool, ◌||◌, ◌==◌, Some, option_map, None, if◌then◌else◌}
 use Rattle.std.specs.Option.{option_or}
@@ -29,6 +30,10 @@ with_zap o word = option_map (λ zap. record o { zap = Some zap }) (once o.zap (
 -- docs/FORMATS.md, Words (the memory model): `--sides` with this value
 abbrev pub with_sides : Options → List ℕ → Option Options
 with_sides o word = option_map (λ sides. record o { sides = Some sides }) (once o.sides (if are_sides word then Some (sides_in word) else None))
+
+-- docs/FORMATS.md, Words: a watcher is asked for once at most
+abbrev pub watch_once : (wanted : Bool) → Watched → Option Watched
+watch_once wanted more = if wanted then None else Some more
 
 -- docs/FORMATS.md, Words: `--watch` with this value
 abbrev pub with_watch : Options → List ℕ → Option Options

@@ -1,6 +1,6 @@
 -- What the words of the command line ask for (5.1.2.2.1p2: a program's parameters). Which words there are is this program's own: docs/FORMATS.md
 -- has the rules.
-use Rattle.std.specs.Prelude.{ℕ, Bool, List, [], ◌∷◌, length, map, Option, Some, None, if◌then◌else◌, ◌==◌, nat_lt, codes, option_map, option_and_then, unwrap_or, String, string_bytes, true, false, ◌||◌, ◌&&◌}
+use Rattle.std.specs.Prelude.{ℕ, Bool, List, [], ◌∷◌, length, map, Option, Some, None, if◌then◌else◌, ◌==◌, nat_lt, codes, option_map, option_and_then, unwrap_or, is_some, String, string_bytes, true, false, ◌||◌, ◌&&◌}
 use Rattle.std.specs.Str.{bytes_eq}
 use Rattle.std.specs.List.{list_all}
 use Rattle.std.specs.declared.alloc.Global.{Global}
@@ -49,23 +49,18 @@ no_options = record { script = None; turns = None; zap = None; sides = None; wat
 
 -- docs/FORMATS.md, Words (5.1.2.2.1p2): what an option says that stands once at most
 abbrev pub once : {A : Type 0} → (before said : Option A) → Option A
-once None said = said
-once (Some other) said = None
+once before said = if is_some before then None else said
 
 -- docs/FORMATS.md, Words (5.1.2.2.1p2): the name of a file has a byte
 abbrev pub file_name : List ℕ → Option (List ℕ)
 file_name word = if nat_lt 0 (length word) then Some word else None
 
--- docs/FORMATS.md, Words (5.1.2.2.1p2): each watcher is asked for once at most
-abbrev pub watch_once : (wanted : Bool) → Watched → Option Watched
-watch_once wanted more = if wanted then None else Some more
-
--- docs/FORMATS.md, Words (5.1.2.2.1p2): the watcher of this word more
+-- docs/FORMATS.md, Words (5.1.2.2.1p2): the watcher of this word more; each is asked for once at most
 abbrev pub one_more : Watched → List ℕ → Option Watched
 one_more w word =
-    if bytes_eq word (codes "explain") then watch_once w.explain (record { explain = true; census = w.census; pointers = w.pointers })
-    else if bytes_eq word (codes "census") then watch_once w.census (record { explain = w.explain; census = true; pointers = w.pointers })
-    else if bytes_eq word (codes "pointers") then watch_once w.pointers (record { explain = w.explain; census = w.census; pointers = true }) else None
+    if bytes_eq word (codes "explain") then (if w.explain then None else Some (record w { explain = true }))
+    else if bytes_eq word (codes "census") then (if w.census then None else Some (record w { census = true }))
+    else if bytes_eq word (codes "pointers") then (if w.pointers then None else Some (record w { pointers = true })) else None
 
 -- docs/FORMATS.md, Words (5.1.2.2.1p2): the option that a mode has by itself: `run` has `--watch`, for each watcher, and `settle` has `--sides`, once
 -- (the memory model)
@@ -104,8 +99,7 @@ settled_by file o =
 
 -- docs/FORMATS.md, Words (5.1.2.2.1p2): what describes a source has no options
 abbrev pub description_job : Task → (file : List ℕ) → List (List ℕ) → Option FileJob
-description_job t file [] = Some (record { file = file; script = None; task = t; sides = None; watched = nobody })
-description_job t file _ = None
+description_job t file rest = if length rest == 0 then Some (record { file = file; script = None; task = t; sides = None; watched = nobody }) else None
 
 -- docs/FORMATS.md, Words (5.1.2.2.1p2): what a mode asks of a file, with these words behind it
 abbrev pub file_job_for : (mode file : List ℕ) → List (List ℕ) → Option FileJob

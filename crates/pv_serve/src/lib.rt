@@ -22,7 +22,7 @@ mod words;
 
 pub use checking::{Refused, SOURCE_LIMIT, check};
 pub use discarding::Nowhere;
-pub use judging::{Judgement, judge};
+pub use judging::{Judgement, first_bytes_decide, judge, one_end, one_verdict, watchers_tell};
 pub use loading::{Loaded, load};
 pub use pv_types::NoMemory;
 pub use reading::{JobText, SCRIPT_LIMIT, read_job, read_script};

@@ -1,5 +1,5 @@
 // The report: one line, and the status that goes with it.
-ghost use Rattle.std.specs.Prelude.{◌≡◌, ◌<◌, ◌⊎◌, ◌++◌, IfOk, string_bytes};
+ghost use Rattle.std.specs.Prelude.{◌≡◌, ◌<◌, ◌⊎◌, ◌++◌, ℕ, List, IfOk, string_bytes};
 ghost use Rattle.pv_script.specs.Names.{name_at};
 ghost use Rattle.pv_serve.specs.Report as specified;
 ghost use Rattle.pv_serve.specs.ReportParts as specified_parts;
@@ -18,7 +18,7 @@ use std::alloc::Global;
 
 /// The status that goes with a judgement; it takes no memory.
 pub fn status(judgement: &Judgement) -> u8
-    ensures value { (shown : Shown) → result ≡ specified.status_of (verdict_of judgement.now shown) }
+    ensures value { (shown : Shown) → result ≡ specified_parts.status_of (verdict_of judgement.now shown) }
     ensures own { (result < 10) ⊎ (result ≡ 14) }
 {
     match judgement {
@@ -32,7 +32,7 @@ pub fn status(judgement: &Judgement) -> u8
 
 // The status of a run.
 fn run_status(outcome: Outcome) -> u8
-    ensures value { result ≡ specified.outcome_status outcome }
+    ensures value { (names : List (List ℕ)) (turns bound : ℕ) → result ≡ (specified.outcome_report outcome names turns bound).0 }
     ensures own { (result < 10) ⊎ (result ≡ 14) }
 {
     match outcome {
@@ -53,7 +53,7 @@ fn run_status(outcome: Outcome) -> u8
 /// The line that tells a judgement, with its line feed, and behind it the line of its sides where they are listed; of a source that is described,
 /// its text. The only error is want of memory.
 pub fn line(alloc: Global, judgement: &Judgement) -> Result<Vec<u8>, NoMemory>
-    ensures { (shown : Shown) → IfOk result (λ v. v.items ≡ specified.report_line (verdict_of judgement.now shown)) }
+    ensures { (shown : Shown) → IfOk result (λ v. v.items ≡ specified_parts.report_line (verdict_of judgement.now shown)) }
 {
     match judgement {
         Judgement::Ran { ran, names, bound } => run_line(alloc, ran, names, *bound),
@@ -71,7 +71,7 @@ pub fn line(alloc: Global, judgement: &Judgement) -> Result<Vec<u8>, NoMemory>
 
 /// The line of a run that ended. The only error is want of memory.
 pub fn run_line(alloc: Global, ran: &Ran, names: &Names, bound: u64) -> Result<Vec<u8>, NoMemory>
-    ensures { IfOk result (λ v. v.items ≡ specified.outcome_line ran.now.outcome names.now ran.now.turns bound) }
+    ensures { IfOk result (λ v. v.items ≡ specified_parts.outcome_line ran.now.outcome names.now ran.now.turns bound) }
 {
     let turns = ran.turns;
     match ran.outcome {
@@ -110,7 +110,7 @@ fn settled_lines(
     bound: u64,
     listed: bool,
 ) -> Result<Vec<u8>, NoMemory>
-    ensures { IfOk result (λ v. v.items ≡ specified.outcome_line ran.now.outcome names.now ran.now.turns bound
+    ensures { IfOk result (λ v. v.items ≡ specified_parts.outcome_line ran.now.outcome names.now ran.now.turns bound
         ++ specified.listed_sides listed ran.now.outcome ran.now.sides) }
 {
     let mut text = run_line(alloc, ran, names, bound)?;
@@ -198,7 +198,7 @@ fn exit_line(alloc: Global, status: i32, turns: u64) -> Result<String, NoMemory>
 
 // The line of a run that ended in a line of its source, by this word.
 fn at_line(alloc: Global, word: &str, line: u32, turns: u64) -> Result<String, NoMemory>
-    ensures { IfOk result (λ s. string_bytes s ≡ specified.at_line word.now line turns) }
+    ensures { IfOk result (λ s. string_bytes s ≡ word.now ++ specified.at_line line turns) }
 {
     Ok(format!(in alloc; "{word} line={line} turn={turns}\n")?)
 }

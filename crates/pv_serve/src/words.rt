@@ -66,7 +66,7 @@ fn add_wanted(kinds: &mut Vec<u8>, wanted: bool, kind: u8) -> Result<(), AllocEr
 }
 
 /// Their kinds, by which a hall knows them.
-pub fn kinds_of(alloc: Global, watched: Watched) -> Result<Vec<u8>, AllocError>
+pub(crate) fn kinds_of(alloc: Global, watched: Watched) -> Result<Vec<u8>, AllocError>
     ensures { IfOk result (λ v. v.items ≡ kinds_of watched) }
 {
     let mut kinds = Vec::new(alloc);
@@ -141,7 +141,7 @@ fn source_number(text: &str) -> Option<u32>
 ///
 /// The options of both are `--script F`, `--turns N` and `--zap V`, each at most once, in any order. A run has `--watch W` too, at most once for
 /// each of `explain`, `census` and `pointers`, and a settled run `--sides S`, at most once.
-pub fn file_job(words: &[String]) -> Option<Asked<'_>>
+pub(crate) fn file_job(words: &[String]) -> Option<Asked<'_>>
     ensures words { IsAsked result (specified.file_job (specified.texts words.now)) }
     ensures turns { IfSome result (λ j. IsTask j.task) }
 {
@@ -453,7 +453,7 @@ fn one_more(watched: Watched, word: &str) -> Option<Watched>
 
 // More watchers, unless the one that is new was wanted before.
 fn once(wanted: bool, more: Watched) -> Option<Watched>
-    ensures { result ≡ specified.watch_once wanted more }
+    ensures { result ≡ specified_parts.watch_once wanted more }
 {
     if wanted { None } else { Some(more) }
 }

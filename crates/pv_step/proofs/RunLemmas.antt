@@ -33,7 +33,7 @@ use Rattle.pv_serve.specs.declared.judging.Judgement.{Judgement}
 use Rattle.pv_serve.specs.declared.judging.Judgement.TheVariants as judgement
 use Rattle.pv_serve.specs.Judging.{Shown, nothing_shown, ending_of, verdict_of}
 use Rattle.pv_serve.specs.Verdicts as verdict
-use Rattle.pv_serve.specs.Report.{report_line, status_of}
+use Rattle.pv_serve.specs.ReportParts.{report_line, status_of}
 use Rattle.pv_serve.specs.Settling.{IsOutcome}
 use Rattle.pv_serve.specs.Outside.{Sunk, Halls}
 use Rattle.pv_serve.specs.declared.telling.Reply as code

@@ -6,7 +6,7 @@ use Rattle.pv_exec.specs.declared.outcome.Outcome.TheVariants as outcome
 use Rattle.pv_serve.specs.declared.words.Task.TheVariants as task
 use Rattle.pv_serve.specs.Verdicts.{Verdict, Ended}
 use Rattle.pv_serve.specs.Judged.{Judged}
-use Rattle.pv_serve.specs.Report.{report_line, status_of}
+use Rattle.pv_serve.specs.Report.{answer_of}
 use Rattle.pv_serve.specs.Outside.{AnyRose}
 use Rattle.pv_serve.specs.Answer.{script_held}
 use Rattle.pv_serve.specs.Replies.{Reply, Service}
@@ -35,13 +35,13 @@ run_of turns o line rows = record { rows = rows; taken = turns; by_turns = is_tu
 
 -- 5.1.1.3p1: what is told of a source, or of its script, that is refused
 abbrev pub told_of : Verdict → Reply
-told_of v = record { status = status_of v; text = report_line v }
+told_of v = record { status = (answer_of v).status; text = (answer_of v).line }
 
 -- docs/FORMATS.md, Commands (5.1.2.3): a run is looked at by commands, with the lines of its journal (the memory model), which obey; a source that has no run is told
 abbrev pub IsShown : Verdict → List Command → Reply → Type 0
 IsShown (Ended e bound) cs reply =
     (rows : List Row) × IsJournal rows (watched.journal_text e.events e.names)
-    × (reply ≡ record { status = 0; text = report_of (run_of e.turns e.outcome (report_line (Ended e bound)) rows) cs })
+    × (reply ≡ record { status = 0; text = report_of (run_of e.turns e.outcome (answer_of (Ended e bound)).line rows) cs })
 IsShown v cs reply = reply ≡ told_of v
 
 -- 5.1.2.3: the source is run with its script, with as many turns as there are positions, with a pointer to what has ended indeterminate (6.2.4p2) and no

@@ -22,7 +22,7 @@ pub struct StepText {
 }
 
 /// Reads the source, its script, if one is named, and the commands, in this order. A fault is that of one of them.
-pub fn read_files<F: Files>(
+pub(crate) fn read_files<F: Files>(
     alloc: Global,
     asked: Asked<'_>,
     files: &mut F,

@@ -16,7 +16,7 @@ pub struct Asked<'a> {
 }
 
 /// What the words ask for, if they do: `SOURCE COMMANDS`, with `--script F` behind them or without.
-pub fn job_asked(words: &[String]) -> Option<Asked<'_>>
+pub(crate) fn job_asked(words: &[String]) -> Option<Asked<'_>>
     ensures { IsAsked result (specified.job (texts words.now)) }
 {
     match words {

@@ -6,8 +6,7 @@ use Rattle.pv_serve.specs.declared.words.Task.TheVariants as task
 use Rattle.pv_serve.specs.declared.judging.Judgement.{Judgement}
 use Rattle.pv_serve.specs.Judged.{Judged, script_limit}
 use Rattle.pv_serve.specs.Judging.{Shown, verdict_of}
-use Rattle.pv_serve.specs.Verdicts.{output_of}
-use Rattle.pv_serve.specs.Report.{report_line}
+use Rattle.pv_serve.specs.ReportParts.{output_of, report_line}
 use Rattle.pv_serve.specs.Settling.{IsOutcome}
 use Rattle.pv_serve.specs.Outside.{Sunk, Halls, Wrote}
 use Rattle.pv_serve.proofs.Limits.{more_decides}

@@ -8,9 +8,9 @@ use Rattle.pv_cases.specs.declared.list.ListError.{ListError}
 use Rattle.pv_cases.specs.Cases.{SuiteCase, ◌>>=◌, cases_of}
 use Rattle.pv_cases.specs.Suites.{Gave, Wanted, CaseTold, told_of, suite_text, suite_status, list_line, long_line}
 use Rattle.pv_serve.specs.declared.words.Task.TheVariants as task
-use Rattle.pv_serve.specs.Verdicts.{Verdict, Ended, Settled, output_of}
+use Rattle.pv_serve.specs.Verdicts.{Verdict, Ended, Settled}
 use Rattle.pv_serve.specs.Judged.{Judged}
-use Rattle.pv_serve.specs.Report.{report_line}
+use Rattle.pv_serve.specs.Report.{answer_of}
 use Rattle.pv_serve.specs.Answer.{script_held}
 use Rattle.pv_serve.specs.Replies.{Reply}
 
@@ -58,7 +58,7 @@ clause_of _ = None
 
 -- 5.1.2.3: what a case came to, by the verdict on its source: the first line of its report, its output, and its clause
 abbrev pub gave_of : Verdict → Gave
-gave_of v = record { line = report_line v; output = output_of v; clause = clause_of v }
+gave_of v = record { line = (answer_of v).line; output = (answer_of v).out; clause = clause_of v }
 
 -- 5.1.2.3: the source is run with its script, with so many turns at most, with a pointer to what has ended indeterminate (6.2.4p2) and no sides; or
 -- it is refused (5.1.1.3p1)

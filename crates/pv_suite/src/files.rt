@@ -25,7 +25,7 @@ pub struct CaseText {
 }
 
 /// Reads the files of a case: its source, its script and its output, as far as they are named. A fault is that of one of them.
-pub fn read_case<F: Files>(
+pub(crate) fn read_case<F: Files>(
     alloc: Global,
     case: Case<'_>,
     files: &mut F,
@@ -90,7 +90,7 @@ fn read_some<F: Files>(
 }
 
 /// Whether the output that a case is to have is too long to be compared.
-pub fn is_too_long(text: &CaseText) -> bool
+pub(crate) fn is_too_long(text: &CaseText) -> bool
     ensures { result ≡ is_long (text_view text.now).output }
 {
     match &text.output {

@@ -26,7 +26,7 @@ pub struct Ended {
 }
 
 /// Runs a case by what was read of its files, and compares. The only error is want of memory.
-pub fn run_case(
+pub(crate) fn run_case(
     alloc: Global,
     case: Case<'_>,
     number: u64,

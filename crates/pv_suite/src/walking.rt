@@ -24,7 +24,7 @@ pub enum Walked {
 }
 
 /// Runs the cases one after the other, to the first whose output is too long.
-pub fn walk<F: Files>(
+pub(crate) fn walk<F: Files>(
     alloc: Global,
     cases: &[Case<'_>],
     files: &mut F,

@@ -4,7 +4,7 @@ ghost use Rattle.pv_serve.specs.Words.{texts};
 ghost use Rattle.pv_suite.specs.Words.{list_of};
 
 /// The name of the list that is asked for, where the words are one name of at least one byte.
-pub fn list_asked(words: &[String]) -> Option<&str>
+pub(crate) fn list_asked(words: &[String]) -> Option<&str>
     ensures { MatchOption result
         (list_of (texts words.now) ≡ None)
         (λ name. list_of (texts words.now) ≡ Some name.now) }

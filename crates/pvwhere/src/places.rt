@@ -18,7 +18,7 @@ use std::alloc::Global;
 pub const SOURCE_LIMIT: usize = 1_048_576;
 
 /// The first bytes of a source, as many as one may have.
-pub fn first_bytes(source: &[u8]) -> &[u8]
+pub(crate) fn first_bytes(source: &[u8]) -> &[u8]
     ensures first { result.now ≡ specified.first_bytes source.now }
     ensures short { length result.now ≤ 2 ^ 20 }
 {

@@ -4,7 +4,7 @@ ghost use Rattle.pv_serve.specs.Words.{texts};
 ghost use Rattle.pvwhere.specs.Words.{file_of};
 
 /// The name of the file that is asked for, where the words are one name of at least one byte.
-pub fn file_asked(words: &[String]) -> Option<&str>
+pub(crate) fn file_asked(words: &[String]) -> Option<&str>
     ensures { MatchOption result
         (file_of (texts words.now) ≡ None)
         (λ name. file_of (texts words.now) ≡ Some name.now) }
