@@ -70,7 +70,8 @@ try_signals() {
   local kept=("${launcher[@]}")
   mkdir -p "$work/temporary"
   instead "echo \$\$ >'$work/began'; exec sleep 60"
-  launcher=(env "TMPDIR=$work/temporary" "${launcher[@]}")
+  # (a shell that was begun with HUP ignored, as by nohup, can't hear it)
+  launcher=(env --default-signal=HUP "TMPDIR=$work/temporary" "${launcher[@]}")
   try_signal TERM 143 run "$work/hello.c"
   try_signal HUP 129 run "$work/plain.c"
   try_signal TERM 143 check "$work/hello.c" --report "$work/report"
