@@ -1,16 +1,16 @@
-# For ./pvrun: the programs beside pvrun that read a source as it does, pv_replay and pv_step: `other` is the name of the one that is asked for.
+# For ./pvrun: the programs beside pvrun that read a source as it does, pv_replay, pv_step and pv_state: `other` is the name of the one that is asked for.
 # shellcheck shell=bash disable=SC1091,SC2154
 
-# The words behind `MODE FILE`, as those of a run; sets what the file is taken from, and `handed` to the program's own options. Those of a run that
+# The words behind `MODE FILE`, as those of a run (or of the mode that `like` names); sets what the file is taken from, and `handed` to the program's own options. Those of a run that
 # stand behind are none here.
 read_beside() {
-  local name=$1 i
-  read_words run "${@:3}"
+  local name=$1 like=${like-run} i
+  read_words "$like" "${@:3}"
   [ $# -gt 2 ] || slip="$name wants a file"
-  slip=${slip/%'no option of run'/"no option of $name"}
-  slip=${slip/'and run takes one'/"and $name takes one"}
-  slip=${slip/#'run wants'/"$name wants"}
-  slip=${slip/'pvrun run FILE'/"pvrun $name FILE"}
+  slip=${slip/%"no option of $like"/"no option of $name"}
+  slip=${slip/"and $like takes one"/"and $name takes one"}
+  slip=${slip/#"$like wants"/"$name wants"}
+  slip=${slip/"pvrun $like FILE"/"pvrun $name FILE"}
   [ -z "$quiet$report$sarif$errors" ] || slip="$name takes neither --quiet nor --report nor --sarif nor --stderr"
   [ -z "$leaks" ] || slip="'--leaks' is no option of $name"
   for ((i = 0; i < ${#handed[@]}; i += 2)); do

@@ -12,6 +12,7 @@ TOPS = {
     "pv_suite": ("suite", "suite_calmly"),
     "pv_replay": ("replay", "replay_calmly"),
     "pv_step": ("step", "step_calmly"),
+    "pv_state": ("state", "state_calmly"),
     "pv_values": ("state_text", "type_name"),
 }
 

@@ -1,4 +1,4 @@
-# For tools/front: what programs are told as they begin, programs that a signal ends, launchers that one ends, and the run turn by turn.
+# For tools/front: what programs are told as they begin, programs that a signal ends, launchers that one ends, the run turn by turn, and where it stands.
 # shellcheck shell=bash disable=SC2016,SC2086,SC2154
 
 # The launcher over something else in the place of pvrun.
@@ -113,9 +113,32 @@ indeterminate line=3 turn=3  $work/unset.c:3: return n;" "$out"
   try_call "step: an option of run's" 10 words step "$work/unset.c" --turns 3
 }
 
+# Where a run stands: its line, calls and objects, at its end and at a turn. Without the program there is nothing to be tried.
+try_where() {
+  [ -x "$programs/pv_state" ] || return
+  try_call 'where' 0 "indeterminate line=3 turn=3
+call main line=1
+object n#1 type=int address=0x10000 size=4 value=unset" where "$work/unset.c"
+  try_call 'where: turns' 0 'turn 1
+call main line=1
+turn 4 not taken' where "$work/unset.c" --zap off 1 4
+  try_call 'where: an option, and all' 0 'turns bound=1
+call main line=1
+object n#1 type=int address=0x10000 size=4 value=unset' where "$work/unset.c" --turns 1 --all end
+  try_call 'where: a source that is refused' 8 'refused reason=constraint index=0' where "$work/refused.c"
+  try_call 'where: no such file' 11 'fault read' where "$work/none.c"
+  try_call 'where: no file' 10 words where
+  try 'where: no file: hint' 'pvrun: hint: where wants a file' "$err"
+  try_call 'where: a turn above the bound' 10 words where "$work/unset.c" --turns 3 4
+  try 'where: a turn above the bound: hint' "pvrun: hint: '4' is no place: end, or a turn from 1 to 3 (options stand before places)" "$err"
+  try_call 'where: a watcher' 10 words where "$work/unset.c" --watch census
+  try 'where: a watcher: hint' "pvrun: hint: '--watch' is no option of where" "$err"
+}
+
 try_all_signals() {
   try_memory
   try_ended
   try_signals
   try_steps
+  try_where
 }

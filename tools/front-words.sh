@@ -13,7 +13,7 @@ try_slip() {
 try_slips() {
   local file=$work/plain.c
   try_slip 'no word' 'no mode; try ./pvrun --help'
-  try_slip 'no such mode' "'walk' is no mode (run, settle, check, layout, gen, replay, step, page, explore, suite)" walk "$file"
+  try_slip 'no such mode' "'walk' is no mode (run, settle, check, layout, gen, replay, step, where, page, explore, suite)" walk "$file"
   try_slip 'a file in the place of a mode' "'a.c' is no mode; try pvrun run a.c" a.c
   try_slip 'no file' 'run wants a file' run
   try_slip 'an empty name' 'the name of the file is empty' check ''
@@ -60,7 +60,7 @@ try_told() {
   local word
   call --help
   try_holds '--help' 'usage: pvrun run FILE' "$out"
-  for word in -h help 'run -h' 'check --help' 'step -h' 'replay --help'; do
+  for word in -h help 'run -h' 'check --help' 'step -h' 'where -h' 'replay --help'; do
     try_call "$word" 0 "$(cat tools/help.txt)" $word
   done
   for word in --help 'run -h' --version; do

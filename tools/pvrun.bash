@@ -7,7 +7,7 @@ _pvrun() {
   mode=${COMP_WORDS[first]-}
   COMPREPLY=()
   if [ "$COMP_CWORD" = "$first" ]; then
-    options='run settle check layout gen replay step page explore suite'
+    options='run settle check layout gen replay step where page explore suite'
     [ "$first" = 2 ] || options+=' --unproved --install --help --version'
     COMPREPLY=($(compgen -W "$options" -- "$word"))
     return
@@ -26,6 +26,7 @@ _pvrun() {
     run-*) COMPREPLY=($(compgen -W '--script --turns --zap --watch --raw --lower --keep --drop --input --stderr --report --sarif --leaks --quiet -I -D -U' -- "$word")) ;;
     settle-*) COMPREPLY=($(compgen -W '--script --turns --zap --sides --raw --lower --keep --drop --input --stderr --report --quiet -I -D -U' -- "$word")) ;;
     check-* | layout-*) COMPREPLY=($(compgen -W '--raw --lower --keep --drop --input --report --quiet -I -D -U' -- "$word")) ;;
+    where-*) COMPREPLY=($(compgen -W '--script --turns --zap --sides --all --raw --lower --keep --drop --input -I -D -U' -- "$word")) ;;
     step-*) COMPREPLY=($(compgen -W '--script --raw --lower --keep --drop --input -I -D -U' -- "$word")) ;;
     replay-*) COMPREPLY=($(compgen -W '--script --turns --raw --lower --keep --drop --input -I -D -U' -- "$word")) ;;
     page-*) COMPREPLY=($(compgen -W '--lower --script --turns -o --listen --programs --help' -- "$word")) ;;

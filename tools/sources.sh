@@ -1,6 +1,6 @@
 # For ./pvrun, tools/prove and tools/unproved, from the top of the repository: what a program is made from, and whether it is made from that
-# as it is now. The programs are pvrun, pvwhere, which shows where a refusal is, pv_replay, which writes and checks journals, and
-# pv_step, which answers commands about single turns; each stands in crates/NAME/out/NAME.
+# as it is now. The programs are pvrun, pvwhere, which shows where a refusal is, pv_replay, which writes and checks journals, pv_step, which
+# answers commands about single turns, and pv_state, which tells where a run stands; each stands in crates/NAME/out/NAME.
 # shellcheck shell=bash disable=SC2185
 
 # What a program BUILT is looked for in, in the array `roots`: the program, and the folders of sources that the crates behind it have.

@@ -21,7 +21,7 @@ read_words() {
     gen) [[ $source =~ ^[1-9][0-9]{0,3}$ && $source -le 8192 ]] || slip='gen takes one number, from 1 to 8192 without a leading zero' ;;
     '') slip='no mode; try ./pvrun --help' ;;
     *.c | *.i) slip="'$mode' is no mode; try pvrun run $mode" ;;
-    *) slip="'$mode' is no mode (run, settle, check, layout, gen, replay, step, page, explore, suite)" ;;
+    *) slip="'$mode' is no mode (run, settle, check, layout, gen, replay, step, where, page, explore, suite)" ;;
   esac
   lowering=()
   [ $# -le 2 ] || read_options "${@:3}"

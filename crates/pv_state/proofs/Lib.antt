@@ -1,0 +1,4 @@
+pub mod TellingLemmas
+pub mod FileLemmas
+pub mod PlaceLemmas
+pub mod WordLemmas

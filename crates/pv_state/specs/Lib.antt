@@ -1,0 +1,4 @@
+pub mod Words
+pub mod ReadWords
+pub mod Answers
+pub mod Answering
