@@ -19,9 +19,19 @@ attend() {
 # block of four megabytes or more as a whole where that grows. Left to itself it does so only until the first one is given back; then it copies
 # the tables of a long source again and again, and keeps the room that they leave: a quarter more memory. What is free behind all else is kept
 # up to 64 megabytes, as it would be then.
-attend_program() {
+attend_program() { with_memory attend "$@"; }
+
+with_memory() {
   GLIBC_TUNABLES=${GLIBC_TUNABLES:-glibc.malloc.hugetlb=1} \
-    MALLOC_MMAP_THRESHOLD_=${MALLOC_MMAP_THRESHOLD_:-4194304} MALLOC_TRIM_THRESHOLD_=${MALLOC_TRIM_THRESHOLD_:-67108864} attend "$@"
+    MALLOC_MMAP_THRESHOLD_=${MALLOC_MMAP_THRESHOLD_:-4194304} MALLOC_TRIM_THRESHOLD_=${MALLOC_TRIM_THRESHOLD_:-67108864} "$@"
+}
+
+# Begins a program of the project, without an input, and goes on beside it: `begun` is the number of its process, which ends with this shell.
+begin_program() { with_memory begin "$@"; }
+
+begin() {
+  (trap - INT QUIT TERM HUP PIPE && exec "$@") </dev/null &
+  begun=$!
 }
 
 # The same for a command with children that hear of no signal: all of them are one group.

@@ -8,33 +8,10 @@ BEGIN {
   line = 1
 }
 
-# Control bytes show as question marks.
-function shown(text) { gsub(/[\001-\010\012-\037\177]/, "?", text); return text }
-
 # The value of a KEY=VALUE of the report, or of a line of the story.
 function value(text, key) {
   text = " " text
   return match(text, " " key "=[^ ]*") ? substr(text, RSTART + length(key) + 2, RLENGTH - length(key) - 2) : ""
-}
-
-# A file's name from between the quotes of a line marker.
-function unquoted(text,    made, at) {
-  made = ""
-  while (at = index(text, "\\")) {
-    made = made substr(text, 1, at - 1)
-    text = substr(text, at + 1)
-    if (text ~ /^n/) {
-      made = made "\n"
-      text = substr(text, 2)
-    } else if (text ~ /^[0-7][0-7][0-7]/) {
-      made = made sprintf("%c", substr(text, 1, 1) * 64 + substr(text, 2, 1) * 8 + substr(text, 3, 1))
-      text = substr(text, 4)
-    } else {
-      made = made substr(text, 1, 1)
-      text = substr(text, 2)
-    }
-  }
-  return made text
 }
 
 # An instance of the story in words.

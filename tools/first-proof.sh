@@ -32,7 +32,7 @@ tell_beside() {
 try_meanwhile() {
   sleep 3
   tell_beside 'meanwhile the program is tried before its proofs: an answer in about a minute'
-  unproved=yes
+  unproved=yes meanwhile=yes
   program=$("$tools/unproved" pvrun 2>"$held/said") || exit
   export ASAN_OPTIONS=exitcode=125
   give_trial_stack

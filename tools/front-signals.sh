@@ -79,6 +79,11 @@ try_signals() {
   instead "case \$* in *explain) echo \$\$ >'$work/began'; exec sleep 60 ;; esac; echo indeterminate line=3 turn=3; exit 2"
   launcher=(env "TMPDIR=$work/temporary" "${launcher[@]}")
   try_signal TERM 143 run "$work/unset.c"
+  # what tells the calls runs beside that
+  instead '[[ $* != *explain ]] || exec sleep 1; echo indeterminate line=3 turn=3; exit 2'
+  printf '#!/usr/bin/env bash\necho $$ >"%s"\nexec sleep 60\n' "$work/began" >"$work/other/lib/valumeiro/pv_state" && chmod +x "$work/other/lib/valumeiro/pv_state"
+  launcher=(env "TMPDIR=$work/temporary" "${launcher[@]}")
+  try_signal TERM 143 run "$work/unset.c"
   # a refusal is shown, and what shows it asks the program
   instead "[[ \$2 == /dev/stdin ]] && echo \$\$ >'$work/began' && exec sleep 60; echo refused reason=constraint index=0; exit 8"
   launcher=(env "TMPDIR=$work/temporary" "${launcher[@]}")

@@ -36,12 +36,33 @@ find_place() {
 # What the answer of the program means.
 tell_meaning() {
   case $mode$status in
-    run[1-57] | settle[1-57]) [ -n "$sided" ] || attend "$tools/explain-fault" $fresh "$program" "$text" "$source" "$status" ${again[@]+"${again[@]}"} ;;
+    run[1-57] | settle[1-57]) tell_run ;;
+    *6) tell_run ${within_line:+--line} ;;
     *8) show_place ;;
     *10) say "hint: an argument isn't UTF-8" ;;
     *11) say "hint: '$source' could not be read" ;;
-    *14) say 'hint: the run made a pair for which --sides has no letter' ;;
+    *14) say 'hint: the run made a pair for which --sides has no letter' && tell_run ;;
   esac
+}
+
+# How a run ended, in words: its story, which is told of no run with sides, its calls, and the values of variables.
+tell_run() {
+  find_state
+  if [ -n "$state" ] || [[ -z $sided && $status != 6 ]]; then
+    attend "$tools/explain-fault" $fresh ${1+"$1"} ${state:+--state "$state"} "$program" "$text" "$source" "$status" \
+      ${again[@]+"${again[@]}"} ${sided:+--sides "$sided"}
+  fi
+}
+
+# The program that tells calls and values, in `state`. Where it is not built, none; for an answer beside a first proof none is compiled.
+find_state() {
+  state=''
+  if [ -n "$unproved" ]; then
+    [ -z "$meanwhile" ] && hold && attend "$tools/unproved" pv_state >"$held/state" && state=$(<"$held/state")
+  elif is_ready pv_state; then
+    state=${place/pvwhere\/out\/pvwhere/pv_state\/out\/pv_state}
+    [ -z "$installed" ] || state=$installed/pv_state
+  fi
 }
 
 # Which allocations were never freed, by the journal of the run (whose options --zap is none of).

@@ -2,7 +2,7 @@
 # shellcheck shell=bash disable=SC2034,SC2154  # (variables of pvrun)
 
 step() {
-  local stepper replayer=''
+  local stepper replayer='' state=''
   other=pv_step
   read_beside step '--zap --watch --turns' "$@"
   [ -z "$slip" ] || refuse_beside "$slip"
@@ -20,8 +20,13 @@ step() {
     find_beside pv_replay
     replayer=$found
   fi
+  # (and so it is with what tells calls and values)
+  if [ -n "$unproved" ] || is_ready pv_state; then
+    find_beside pv_state
+    state=$found
+  fi
   # (what is typed may be interrupted; that ends no session)
   trap '' INT
-  attend_program python3 "$tools/step" "$stepper" "$replayer" "$text" "$source" ${handed[@]+"${handed[@]}"}
+  attend_program python3 "$tools/step" "$stepper" "$replayer" "$state" "$text" "$source" ${handed[@]+"${handed[@]}"}
   end_beside "$?"
 }

@@ -80,7 +80,10 @@ class Tests:
 
     def __init__(self, folder: Optional[str], room: str):
         self.room = room
-        self.programs = [os.path.join(folder, name) if folder else f"{HERE}/../crates/{name}/out/{name}" for name in ("pv_step", "pv_replay")]
+        names = ("pv_step", "pv_replay", "pv_state")
+        self.programs = [os.path.join(folder, name) if folder else f"{HERE}/../crates/{name}/out/{name}" for name in names]
+        if not os.access(self.programs[2], os.X_OK):
+            self.programs[2] = ""
 
     def file(self, name: str, text: str) -> str:
         """A file with this text."""
@@ -91,7 +94,7 @@ class Tests:
 
     def told(self, text: str, commands: str, script: str = "", replay: bool = True) -> str:
         """The status, and what is shown of a text, where blanks before the source's line are one."""
-        words = [self.programs[0], self.programs[1] if replay else "", self.file("a.c", text), "a.c"]
+        words = [self.programs[0], self.programs[1] if replay else "", self.programs[2], self.file("a.c", text), "a.c"]
         words += ["--script", self.file("s", script)] if script else []
         done = subprocess.run([f"{HERE}/step", *words], input=commands, capture_output=True, encoding="utf-8", check=False)
         return f"{done.returncode}\n" + "\n".join(" ".join(line.split()) for line in (done.stdout + done.stderr).splitlines())
@@ -117,6 +120,28 @@ def commands_told(tests: Tests) -> "Iterator[tuple[str, object, object]]":
     yield "a turn beyond the last", "19\nstep: 'go 1000001' is no command; help lists them", tests.told(ENDED, "go 1000001\n", "", False)
     yield "a source that is refused", "8\nrefused reason=main", tests.told("", "go 1\n")
     yield "a script that is refused", "9\nscript reason=line line=1", tests.told(ENDED, "go 1\n", "x\n")
+
+
+def places_told(tests: Tests) -> "Iterator[tuple[str, object, object]]":
+    """What is looked at of calls and values."""
+    if not tests.programs[2]:
+        yield "where, without its program", "19\nstep: where is answered by the program pv_state, which isn't built", tests.told(ENDED, "where\ngo 2\n", "", False)
+        return
+    yield "where a turn is due", (
+        "0\nturn 9 running\nturn 10\ncall main line=1\nobject p#1 type=int * address=0x10000 size=8 value={a#1 + 0, ended}\n"
+        "turn 14 running\nturn 15\ncall main line=1\nobject p#1 type=int * address=0x10000 size=8 value={a#1 + 0, ended}"
+    ), tests.told(ENDED, "go 9\nwhere\ngo 14\nwhere\n", PLACES, False)
+    yield "where the run ended", (
+        "0\nundefined clause=6.2.4p2 reason=ended line=5 turn=15\nundefined clause=6.2.4p2 reason=ended line=5 turn=15\ncall main line=1\n"
+        "object p#1 type=int * address=0x10000 size=8 value={a#1 + 0, ended}"
+    ), tests.told(ENDED, "go 15\nwhere\n", PLACES, False)
+    yield "calls, and all objects", (
+        "0\nturn 20 running\nturn 21\ncall twice line=9\nobject n#1 type=int address=0x10040 size=4 value=0\nobject m#1 type=int address=0x10060 size=4 value=unset\n"
+        "call main line=6\nobject i#1 type=int address=0x10000 size=4 value=0\nobject s#1 type=int address=0x10020 size=4 value=0"
+    ), tests.told(CALLS, "go 20\nwhere all\n", "", False)
+    told = tests.told("int main(void) { while (1) ; return 0; }", "go 1000000\nwhere\n", "", False)
+    yield "behind the last turn", "0\nturn 1000000 running\nturn 1000001\ncall main line=1", told
+    yield "where, and more words", "19\nstep: 'where 3' is no command; help lists them", tests.told(ENDED, "where 3\n", "", False)
 
 
 def lines_told(tests: Tests) -> "Iterator[tuple[str, object, object]]":
@@ -170,7 +195,7 @@ def self_test(folder: Optional[str] = None) -> int:
         if not os.access(tests.programs[0], os.X_OK):
             print(f"step: there is no program {tests.programs[0]}", file=sys.stderr)
             return 1
-        for rows in (commands_told(tests), lines_told(tests), sources_taken(tests)):
+        for rows in (commands_told(tests), places_told(tests), lines_told(tests), sources_taken(tests)):
             for words, wanted, got in rows:
                 passed += wanted == got
                 failed += wanted != got

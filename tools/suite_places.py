@@ -50,6 +50,7 @@ class Text:
         self.files: "dict[bytes, Optional[list[bytes]]]" = {}
         self.places: "list[Place]" = []
         self.is_marked = False
+        self.regions: "dict[int, dict[str, object]]" = {}
         self.find_places(name)
 
     def find_places(self, name: bytes) -> None:
@@ -99,6 +100,12 @@ class Text:
 
     def region(self, line: int) -> "dict[str, object]":
         """The region of SARIF for a line of the text: the statement there, by columns where the line is known as it stands in its file."""
+        if line not in self.regions:
+            self.regions[line] = self.found_region(line)
+        return self.regions[line]
+
+    def found_region(self, line: int) -> "dict[str, object]":
+        """The same, looked for in the text."""
         place, held = self.place(line), self.original(line)
         if place is None or place.line < 1:
             return {}

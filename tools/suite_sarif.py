@@ -10,18 +10,21 @@ import re
 import subprocess
 import sys
 import tempfile
-from typing import Callable, NamedTuple, Optional
+from typing import Callable, NamedTuple, Optional, Sequence
 
 import suite_calls
+import suite_stacks
 from sentences import sentences
 from suite_lists import Case, text_of
 from suite_places import Place, Text, is_ours, plain, way_to
+from suite_stacks import AT_LINE, Frame, without_line
 
 HERE = os.path.dirname(os.path.realpath(__file__))
 SCHEMA = "https://json.schemastore.org/sarif-2.1.0.json"
 MESSAGE = re.compile(r"(\S.*?):(\d+):\d+: (error|note): (.*)")
-AT_LINE = re.compile(r" line=(\d+)(?= turn=\d+\Z|\Z)")
 Json = "dict[str, object]"
+# How a run ends, but by `exit`.
+RUNS = ("undefined", "indeterminate", "undecided", "placement", "storage", "turns", "abort")
 # Of each rule that is no clause: what it is, more about it, and how grave a result is.
 RULES = {
     "indeterminate": (
@@ -83,9 +86,12 @@ class Reason(NamedTuple):
 class Told:
     """A run that is told: what was run, and how it ended."""
 
-    def __init__(self, source: bytes, text: str, is_fresh: bool, script: "list[str]", end: str, case: Optional[Case] = None):
-        """SCRIPT is the option with its file, or nothing."""
+    def __init__(self, source: bytes, text: str, is_fresh: bool, script: "list[str]", end: str, case: Optional[Case] = None, more: "Sequence[str]" = ()):
+        """SCRIPT is the option with its file, or nothing; MORE are the other options of the run."""
         self.source, self.path, self.is_fresh, self.script, self.end, self.case = source, text, is_fresh, script, end, case
+        # the file of the text with its markers emptied, whose lines each have one place; and the calls at the end of its run
+        self.plain, self.options = text, [*script, *more]
+        self.frames: "list[Frame]" = []
         self.kind = end.split(" ")[0]
         self.text: Optional[Text] = None
         self.line: Optional[int] = None
@@ -144,11 +150,6 @@ def beside(program: str, name: str) -> str:
     return ""
 
 
-def without_line(end: str) -> str:
-    """An end without what hangs on line markers."""
-    return AT_LINE.sub("", end)
-
-
 def find_places(asked: Asked, all_told: "list[Told]", room: str) -> None:
     """Finds in which line of its text each run ended, and the hints of each refusal."""
     again = []
@@ -164,11 +165,22 @@ def find_places(asked: Asked, all_told: "list[Told]", room: str) -> None:
             told.line = int(found[1])
             if told.text.is_marked:
                 told.line = None
-                again.append((told, write(os.path.join(room, f"plain{number}.c"), plain(told.text.source))))
+                told.plain = write(os.path.join(room, f"plain{number}.c"), plain(told.text.source))
+                again.append((told, told.plain))
     for (told, _), end in zip(again, asked.ends_of(again) if again else []):
         found = AT_LINE.search(end)
         if found and without_line(end) == without_line(told.end):
             told.line = int(found[1])
+    find_calls(asked, [told for told in all_told if told.kind in RUNS and told.text])
+
+
+def find_calls(asked: Asked, all_told: "list[Told]") -> None:
+    """Finds which calls were active where runs ended, by pv_state."""
+    program = beside(asked.program, "pv_state")
+    if program:
+        frames = suite_stacks.frames_of(program, [(told.plain, told.options, told.end) for told in all_told])
+        for told, calls in zip(all_told, frames):
+            told.frames = calls if calls and calls[0].line == told.line else []
 
 
 def find_refusal(asked: Asked, told: Told, room: str) -> None:
@@ -237,20 +249,27 @@ def file_alone(name: bytes, line: int = 0) -> Json:
 
 
 def locations_of(asked: Asked, told: Told) -> "tuple[Json, list[Json]]":
-    """Where a run ended, and where that is in a header that comes with the program, the statement from which it got there, with that header."""
+    """Where a run ended, and where that is in a header that comes with the program, the line from which it got there, with that header; and the places
+    of the calls."""
     if told.kind == "script" and told.script:
         return file_alone(told.case.script if told.case else os.fsencode(told.script[1]), int(told.value("line") or 0)), []
     text = told.text
     place = text.place(told.line) if text and told.line else None
     if text is None or place is None or told.line is None:
         return file_alone(told.source), []
-    here = location(text, told.line)
-    replay = beside(asked.program, "pv_replay") if is_ours(place.file) and told.value("turn") else ""
-    way = way_to(text, told.path, replay, told.script, int(told.value("turn"))) if replay else []
-    outside = [line for line in way if not is_ours(text.places[line - 1].file)]
+    here, calls = location(text, told.line), suite_stacks.related(told.frames, lambda line: location(text, line))
+    outside = [line for line in way_of(asked, told, text) if not is_ours(text.places[line - 1].file)] if is_ours(place.file) else []
     if not outside:
-        return here, []
-    return location(text, outside[0]), [{**here, "message": {"text": "in a header that comes with the program"}}]
+        return here, calls
+    return location(text, outside[0]), [{**here, "message": {"text": "in a header that comes with the program"}}, *calls]
+
+
+def way_of(asked: Asked, told: Told, text: Text) -> "list[int]":
+    """The lines from which a run got to its end, the innermost one first: by pv_state, or where it isn't there, those of statements by pv_replay."""
+    if told.frames:
+        return [frame.line for frame in told.frames if frame.line is not None]
+    replay = beside(asked.program, "pv_replay") if told.value("turn") else ""
+    return way_to(text, told.path, replay, told.script, int(told.value("turn"))) if replay else []
 
 
 # ---- results
@@ -266,8 +285,15 @@ def results_of(asked: Asked, rules: Rules, told: Told, is_expected: Optional[boo
         text = "; ".join(filter(None, (sentence if not results else "", reason.sentence))) + (f" ({why})" if why and not results else "")
         said: Json = {"ruleId": identity, "ruleIndex": rules.places[identity], "message": {"text": text}}
         said.update({"kind": "pass", "level": "none"} if is_expected else {"kind": "fail", "level": level})
-        results.append({**said, "locations": [here], **({"relatedLocations": related} if related else {})})
+        stacks = stacks_of(told)
+        results.append({**said, "locations": [here], **({"relatedLocations": related} if related else {}), **({"stacks": stacks} if stacks else {})})
     return results[:1] if is_expected else results
+
+
+def stacks_of(told: Told) -> "list[Json]":
+    """The calls that were active where a run ended, as a stack."""
+    text = told.text
+    return suite_stacks.stacks(told.frames, lambda line: location(text, line)) if text else []
 
 
 def sarif_of(rules: Rules, results: "list[Json]", notes: "list[str]") -> str:
@@ -288,7 +314,7 @@ def sarif(asked: Asked, cases: "Optional[list[Case]]", why_none: str) -> str:
     shown = []
     for case in cases:
         script = ["--script", os.fsdecode(case.script_file)] if case.script != b"-" else []
-        told = Told(case.source, os.fsdecode(case.text), case.is_fresh, script, text_of(case.end), case)
+        told = Told(case.source, os.fsdecode(case.text), case.is_fresh, script, text_of(case.end), case, ["--turns", text_of(case.bound)])
         if told.kind != "exit" or not case.passed:
             shown.append((case, told))
     with tempfile.TemporaryDirectory() as room:

@@ -71,6 +71,13 @@ ROWS = [
     ("nomain.c", "refused", "nomain.c", None, None, "warning"), ("unicode.c", "C17/6.5.5p5", "unicode.c", 2, (13, 26), "error"),
     ("marked.i", "C17/6.5.5p5", "kept.h", 8, None, "error"), ("a b.c", "C17/6.5.5p5", "a%20b.c", 2, (3, 16), "error"),
 ]
+# The functions that are active where a run ends, each with the file and the line in which it is.
+STACKS = {
+    "divide.c": [("main", "divide.c", 3)], "own.c": [("over", "own.h", 3), ("main", "own.c", 2)],
+    "library.c": [("strcat", "string.h", 44), ("main", "library.c", 4)], "unset.c": [("main", "unset.c", 4)],
+    "asserts.c": [("__assertion_failed", "assert.h", 19), ("hold", "asserts.c", 3), ("main", "asserts.c", 6)],
+    "endless.c": [("main", "", None)], "refused.c": [], "marked.i": [("f", "kept.h", 8), ("main", "kept.c", 2)],
+}
 SCRIPTS = {"undecided.c": b"x 1 0x20000\ny 1 0x20004\n", "placed.c": b"n 1 0x10\n", "bad.script": b"# a\nn 0 0x10\n"}
 
 
@@ -102,11 +109,31 @@ def try_list(tried, tool) -> None:
     results = read("list.sarif")["runs"][0]["results"]
     for (source, rule, file, line, columns, _), one in zip(rows, results):
         tried.same(f"SARIF: {source}", (rule, file, line, columns, "error"), without_headers(named(one), tool))
+        if beside(tool.program, "pv_state"):
+            try_stack(tried, "SARIF", source, one)
     more = [(*named(one), one["kind"]) for one in results[len(rows) :]]
     tried.same("SARIF: as expected, and not", [
         ("C17/6.5.5p5", "divide.c", 3, (3, 16), "none", "pass"), ("script", "bad.script", 2, None, "none", "pass"),
         ("case", "placed.c", None, None, "error", "fail"),
     ], more)
+
+
+def placed(one: "dict") -> "tuple[str, object]":
+    """The file of a location, without its folder, and its line."""
+    place = one.get("physicalLocation", {})
+    return os.path.basename(place.get("artifactLocation", {}).get("uri", "")), place.get("region", {}).get("startLine")
+
+
+def try_stack(tried, words: str, source: str, one: "dict") -> None:
+    """The stack of a result, and the places of its calls beside that of a fault in a header of ours."""
+    wanted = STACKS.get(source)
+    if wanted is None:
+        return
+    frames = [frame["location"] for stack in one.get("stacks", []) for frame in stack["frames"]]
+    tried.same(f"{words}: {source}: stack", wanted, [(frame["logicalLocations"][0]["name"], *placed(frame)) for frame in frames])
+    calls = [(f"{caller[0]} called {callee[0]} here", *caller[1:]) for callee, caller in zip(wanted, wanted[1:])]
+    header = [("in a header that comes with the program", *wanted[0][1:])] if source in ("library.c", "asserts.c") else []
+    tried.same(f"{words}: {source}: calls", header + calls, [(place["message"]["text"], *placed(place)) for place in one.get("relatedLocations", [])])
 
 
 def without_headers(told: "tuple", tool) -> "tuple":
@@ -138,6 +165,8 @@ def try_one(tried, tool) -> None:
         log = read(f"one{number}.sarif")["runs"][0]
         tried.same(f"SARIF of one program: {source}", (0, True, 1), (done.returncode, log["invocations"][0]["executionSuccessful"], len(log["results"])))
         tried.same(f"SARIF of one program: {source}: place", (rule, file, line, columns, level), without_headers(named(log["results"][0]), tool))
+        if beside(tool.program, "pv_state"):
+            try_stack(tried, "SARIF of one program", source, log["results"][0])
 
 
 def try_reasons(tried, tool) -> None:

@@ -2,8 +2,8 @@
 # shellcheck shell=bash disable=SC2034
 
 # Sets mode, source and what the options say; the first word that is none is told in `slip`. `handed` are the program's own options (the name of
-# the script's file is that numbered `script`), `again` those of them that a second run needs (which can't be made where there are sides:
-# `sided`), `changes` the options of preprocessing.
+# the script's file is that numbered `script`), `again` those of them that a second run needs (but the sides: `sided`), `changes` the options of
+# preprocessing.
 read_words() {
   mode=${1-} source=${2-} slip='' handed=() again=() changes=() raw='' keep='' report='' sarif='' errors='' input='' quiet='' leaks='' script='' sided=''
   case $mode in
@@ -73,7 +73,7 @@ read_value() {
   case $1 in
     --keep | --report | --sarif | --stderr | --input) [ -n "$2" ] || slip="the name after $1 is empty" ;;
     --script | --turns | --zap) again+=("$1" "$2") ;;
-    --sides) sided=yes ;;
+    --sides) sided=$2 ;;
   esac
 }
 
