@@ -1,5 +1,5 @@
 -- From an operation on a world to the same in the state of a run (C17 5.1.2.3): guards make no difference, and what it leaves is sound.
-use Rattle.std.proofs.Common.{◌≡◌, ℕ, refl, sym, ap, subst, List, Some, None, IfSome, IsTrue, ◌⊎◌, inl, inr}
+use Rattle.std.proofs.Common.{◌≡◌, ℕ, refl, sym, subst, List, Some, None, IfSome, IsTrue, ◌⊎◌, inl, inr}
 use Rattle.std.specs.Prelude.{Bool, true, false, not, nat_lt, if◌then◌else◌, slice_get}
 use Rattle.std.specs.declared.option.Option.{Option}
 use Rattle.pv_types.specs.Ty.{Ty, IntTy, PointerTo}
@@ -24,15 +24,17 @@ use Rattle.pv_exec.proofs.Memory.Operations.{does-on}
 use Rattle.pv_guards.specs.Worths.{IsThere}
 use Rattle.pv_guards.specs.Fair.{IsArgument}
 use Rattle.pv_guards.specs.Soundness.{Value, IsSound, IsAfter}
+use Rattle.pv_guards.specs.Ruled.{has_rule}
 use Rattle.pv_guards.specs.Plain.{plain_doing, act_plainly}
 use Rattle.pv_guards.specs.Promises.{Promised}
 use Rattle.pv_guards.proofs.Living.{same-live}
 use Rattle.pv_guards.proofs.Made.{led-changes}
 use Rattle.pv_guards.proofs.Suits.{finds-it, fair-known}
+use Rattle.pv_guards.proofs.Ruled.{acts-plainly, pointer-may, ruled}
 use Rattle.pv_guards.proofs.Promised.{promised}
 use Rattle.pv_guards.proofs.Results.{Answering}
 use Rattle.pv_guards.proofs.Triples.{Order, Holds, After}
-use Rattle.pv_guards.proofs.Leaving.{ordered, after-both, after-table, sound-table, Keeping, MayBeCalled, answers, accepted, found, values-later}
+use Rattle.pv_guards.proofs.Leaving.{ordered, after-both, after-table, sound-table, Keeping, MayBeCalled, answers, accepted, callee, found, values-later}
 
 -- a side of a pair that keeps both
 one-side : (high : Bool) → (not high ≡ true) ⊎ (high ≡ true)
@@ -87,11 +89,11 @@ module _ (b : Setting) (os : List ℕ) where
     acted-after line (Fails y p z told) s h = tt
     acted-after line (Breaks y p z told) s h = tt
 
-    -- an operation that does what its rule says, and what it leaves
-    pub acts-so : (line : ℕ) (o : Op) (w : World) → ((z : World) → IsAfter w z → IsSound b os z → (does b o z ≡ plain_doing b o z) × Answering (Left z) (plain_doing b o z)) → Holds order Q w (act b line o) (act_plainly b line o)
+    -- an operation that has a rule, and does what that says, and what it leaves
+    pub acts-so : (line : ℕ) (o : Op) (w : World) → ((z : World) → IsAfter w z → IsSound b os z → (has_rule b o z ≡ true) × (does b o z ≡ plain_doing b o z) × Answering (Left z) (plain_doing b o z)) → Holds order Q w (act b line o) (act_plainly b line o)
     acts-so line o w h s g sound =
         let p = h s.world g sound in
-        (ap (λ d. after_doing b line d s) p.0, subst (λ d. After order Q s.world (after_doing b line d s)) (sym p.0) (acted-after line (plain_doing b o s.world) s p.1))
+        (acts-plainly b line o s p.0 p.1, subst (λ d. After order Q s.world (after_doing b line d s)) (sym p.1) (acted-after line (plain_doing b o s.world) s p.2))
 
   -- what was promised is promised in a later world
   arguments-keep : (w z : World) (args : List Arg) → IsAfter w z → Each (λ (x : Arg). IsArgument w.memory.table x.value) args → Each (λ (x : Arg). IsArgument z.memory.table x.value) args
@@ -101,23 +103,23 @@ module _ (b : Setting) (os : List ℕ) where
   promised-keeps w z (Converts how v) t g h = (h.0, order.keeps h.0 v g h.1, h.2)
   promised-keeps w z (Calculates o k v x) t g h = (h.0, h.1, h.2, h.3, h.4, order.keeps (IntTy h.0) v g h.5, order.keeps (IntTy h.1) x g h.6, h.7)
   promised-keeps w z (CalculatesOne o k v) t g h = (h.0, order.keeps (IntTy k) v g h.1, h.2)
-  promised-keeps w z (Tests v) t g h = (h.0, order.keeps h.0 v g h.1, h.2)
-  promised-keeps w z (Negates v) t g h = (h.0, order.keeps h.0 v g h.1, h.2)
+  promised-keeps w z (Tests v) t g h = (h.0, order.keeps h.0 v g h.1, h.2, h.3)
+  promised-keeps w z (Negates v) t g h = (h.0, order.keeps h.0 v g h.1, h.2, h.3)
   promised-keeps w z (Accepts v) t g h = order.keeps t v g h
   promised-keeps w z (Needs v) t g h = (h.0, h.1, order.keeps t v g h.2)
-  promised-keeps w z (Moves minus first size v x) t g h = (h.0, h.1, h.2, order.keeps h.0 v g h.3, order.keeps h.1 x g h.4, h.5, h.6)
+  promised-keeps w z (Moves minus first size v x) t g h = (h.0, h.1, h.2, order.keeps h.0 v g h.3, order.keeps h.1 x g h.4, h.5, h.6, h.7)
   promised-keeps w z (Subtracts size v x) t g h = (h.0, h.1, order.keeps (PointerTo h.0) v g h.2, order.keeps (PointerTo h.1) x g h.3, h.4, h.5, h.6)
   promised-keeps w z (Orders o v x) t g h = (h.0, h.1, order.keeps (PointerTo h.0) v g h.2, order.keeps (PointerTo h.1) x g h.3, h.4, h.5)
   promised-keeps w z (Equals negated v x) t g h = (h.0, h.1, order.keeps (PointerTo h.0) v g h.2, order.keeps (PointerTo h.1) x g h.3, h.4)
   promised-keeps w z (Follows nothing v) t g h = (h.0, order.keeps (PointerTo h.0) v g h.1, h.2)
   promised-keeps w z (Selects offset v) t g h = (h.0, h.1, order.keeps (PointerTo h.0) v g h.2, h.3)
   promised-keeps w z (TakesPart offset l v) t g h = (h.0, order.keeps h.0 v g h.1, h.2, h.3, h.4, h.5, h.6)
-  promised-keeps w z (Reads l place rivals) t g h = (h.0, h.1, h.2, h.3, h.4, order.keeps (PointerTo h.0) place g h.5)
-  promised-keeps w z (Writes l place v from rivals) t g h = (h.0, h.1, h.2, h.3, h.4, order.keeps (PointerTo h.0) place g h.5, order.keeps t v g h.6)
+  promised-keeps w z (Reads l place rivals) t g h = (h.0, h.1, h.2, h.3, h.4, order.keeps (PointerTo h.0) place g h.5, h.6)
+  promised-keeps w z (Writes l place v from rivals) t g h = (h.0, h.1, h.2, h.3, h.4, order.keeps (PointerTo h.0) place g h.5, order.keeps t v g h.6, h.7)
   promised-keeps w z (NamesObject o) t g h = h
   promised-keeps w z (NamesLiteral l) t g h = h
   promised-keeps w z (NamesFunction f) t g h = h
-  promised-keeps w z (Asks f args) t g h = (h.0, arguments-keep w z args g h.1)
+  promised-keeps w z (Asks f args) t g h = (h.0, arguments-keep w z args g h.1, h.2)
   promised-keeps w z (Finds r v) t g h = absurd h
   promised-keeps w z (Makes o) t g h = absurd h
   promised-keeps w z (MakesLiteral l) t g h = absurd h
@@ -131,13 +133,13 @@ module _ (b : Setting) (os : List ℕ) where
 
   pub accepts-way : (line : ℕ) (t : Ty) (v : Worth) (w : World) → Value b w t v → Holds order (λ v w. Value b w t v × IsThere v) w (act b line (Accepts v)) (act_plainly b line (Accepts v))
   accepts-way line t v w h =
-      acts-so (λ v w. Value b w t v × IsThere v) (λ v w z g q. (order.keeps t v g q.0, q.1)) line (Accepts v) w (λ z g s. (refl, accepted b os z s t v (order.keeps t v g h)))
+      acts-so (λ v w. Value b w t v × IsThere v) (λ v w z g q. (order.keeps t v g q.0, q.1)) line (Accepts v) w (λ z g s. (refl, refl, accepted b os z s t v (order.keeps t v g h)))
 
   pub finds-way : (line : ℕ) (t r : Ty) (v : Worth) (w : World) → Value b w (PointerTo r) v → Holds order (λ f z. MayBeCalled b t f z) w (act b line (Finds t v)) (act_plainly b line (Finds t v))
   finds-way line t r v w h =
       acts-so (λ f z. MayBeCalled b t f z) (λ f w z g q. q) line (Finds t v) w (λ z g s.
       let same = finds-it b z t v (fair-known z v (order.keeps (PointerTo r) v g h).1) in
-      (same, found b os z s t v (subst (λ d. Onward (OfTables (Led ⊥)) z d) same (does-on b (led-changes b) (Finds t v) tt z))))
+      (callee b os z s v (pointer-may v h.0), same, found b os z s t v (subst (λ d. Onward (OfTables (Led ⊥)) z d) same (does-on b (led-changes b) (Finds t v) tt z))))
 
   -- each operation of an expression is the same with its guard and without, and leaves what it does
   pub acts : ((f : Library) (args : List Arg) (t : Ty) (w : World) (s : IsSound b os w) → Promised b os w (Asks f args) t → Answering (Keeping b os w s (λ v z. Value b z t v)) (asks f args w))
@@ -145,4 +147,4 @@ module _ (b : Setting) (os : List ℕ) where
   acts a line o t w p =
       acts-so (λ v w. Value b w t v) (λ v w z g q. order.keeps t v g q) line o w (λ z g s.
       let q = promised-keeps w z o t g p in
-      (promised b os z o t q, answers b os z s o t q (λ f args h. a f args t z s h)))
+      (ruled b os z s o t q, promised b os z o t q, answers b os z s o t q (λ f args h. a f args t z s h)))

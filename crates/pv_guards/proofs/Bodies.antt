@@ -29,6 +29,7 @@ use Rattle.pv_guards.specs.PlainParts as parts
 use Rattle.pv_guards.specs.TypedStatements.{IsMakeable, IsParameter, AreParameters, IsResult, IsDefinition, IsTypedFunction, IsTypedUnit}
 use Rattle.pv_guards.specs.Laws.{GivesSound, CallsAgree}
 use Rattle.pv_guards.proofs.Numbers.{zero_fits}
+use Rattle.pv_guards.proofs.Values.{from-bare, to-bare}
 use Rattle.pv_guards.proofs.Fair.{Keeps}
 use Rattle.pv_guards.proofs.Results.{Answering}
 use Rattle.pv_guards.proofs.Living.{all-same}
@@ -36,7 +37,7 @@ use Rattle.pv_guards.proofs.Leaving.{after-both, homes-later, apart-later, value
 use Rattle.pv_guards.proofs.Acting.{sides-keep}
 use Rattle.pv_guards.proofs.Sure.{Lands, Sure, sure-seq, sure-more, acted-lands}
 use Rattle.pv_guards.proofs.Objects.{Within, in-scope, puts-holds, makes-sure, within-sided}
-use Rattle.pv_guards.proofs.Statements.{from-bare, to-bare, none-nothing, value-missing, moved-in, before-in, FlowOf, flow-later, EndsIn, Level, piece, end-sure, inv-less, ex-sure, round-sure, round_do-sure}
+use Rattle.pv_guards.proofs.Statements.{none-nothing, value-missing, moved-in, before-in, FlowOf, flow-later, EndsIn, Level, piece, end-sure, inv-less, ex-sure, round-sure, round_do-sure}
 
 signature-of : (x t : Ty) (ts : Tys) → IsSignature x t ts → (r : Ty) × (us : Tys) × (x ≡ FunctionTy r us false) × AreLike r t × AreAllLike ts us
 signature-of (FunctionTy r us false) t ts h = (r, us, refl, h.0, h.1)
@@ -175,10 +176,21 @@ module _ (b : Setting) (unit : IsTypedUnit b.unit) where
           missing (inr v) = (from-bare (layouts b.unit) r Missing (value-missing (layouts b.unit) (bare_type r) v), tt)
 
   flow-value : (x : TypedFunction) (r : Ty) (us : Tys) → IsTypedFunction b.unit x r us → x.t ≡ FunctionTy r us false → (fl : Flow) (z : World) → FlowOf b r fl z → Value b z r (value_by b x fl)
-  flow-value x r us f e (Returns v) z h = h
+  flow-value x r us f e (Returns v) z h = h.0
   flow-value x r us f e Falls z h = end-value x r us f e z
   flow-value x r us f e Breaks z h = end-value x r us f e z
   flow-value x r us f e Continues z h = end-value x r us f e z
+
+  -- 5.1.2.2.3p1: what `main` gives is there
+  zero-there : (c d : Bool) → c ≡ true → IsThere (if c then int (pos 0) else (if d then Nothing else Missing))
+  zero-there true d e = tt
+  zero-there false d e = absurd cc
+
+  main-there : (x : TypedFunction) (r : Ty) (fl : Flow) (z : World) → FlowOf b r fl z → is_main b.unit x ≡ true → IsThere (value_by b x fl)
+  main-there x r (Returns v) z h e = h.1
+  main-there x r Falls z h e = zero-there (is_main b.unit x) (gives_none x.t) e
+  main-there x r Breaks z h e = zero-there (is_main b.unit x) (gives_none x.t) e
+  main-there x r Continues z h e = zero-there (is_main b.unit x) (gives_none x.t) e
 
   module _ (u u' : Below) (level : Level b u u') where
     -- 6.9.1p10, p11: the parameters, and then the body
@@ -203,31 +215,32 @@ module _ (b : Setting) (unit : IsTypedUnit b.unit) where
         subst (λ os. Within b os rest w0 s.world → Sure (λ v z. Within b [] rest w0 z × Keeps s.world.memory.table z.memory.table) (end_all b os s) (parts.end_all b os s)) (sym d) (λ k. (refl, (k, λ p g. g))) i
 
     -- a call of a function with this result and these parameters
-    abbrev Called : List ℕ → Ty → World → Worth → World → Type 0
-    Called os t w v z = Value b z t v × IsSound b os z × IsAfter w z
+    abbrev Called : List ℕ → TypedFunction → Ty → World → Worth → World → Type 0
+    Called os x t w v z = Value b z t v × IsSound b os z × IsAfter w z × (is_main b.unit x ≡ true → IsThere v)
 
-    pub call-sure : (os : List ℕ) (x : TypedFunction) (r : Ty) (us : Tys) → IsTypedFunction b.unit x r us → x.t ≡ FunctionTy r us false → is_some x.body ≡ true → (vs : List Worth) (line : ℕ) (s : State) → AreValues b s.world us vs → IsSound b os s.world → Sure (Called os r s.world) (call_body b u x vs line s) (parts.call_body b u' x vs line s)
+    pub call-sure : (os : List ℕ) (x : TypedFunction) (r : Ty) (us : Tys) → IsTypedFunction b.unit x r us → x.t ≡ FunctionTy r us false → is_some x.body ≡ true → (vs : List Worth) (line : ℕ) (s : State) → AreValues b s.world us vs → IsSound b os s.world → Sure (Called os x r s.world) (call_body b u x vs line s) (parts.call_body b u' x vs line s)
     call-sure os x r us f e there vs line s g sound =
         let w = s.world in
         let rest = w.bodies in
         let ps = x.params in
-        sure-seq (λ v z. Within b [] rest w z) (Called os r w) (act b line (BeginsBody x.name line) s) (act_plainly b line (BeginsBody x.name line) s) _ _ (begins-sure b os w sound x.name line s refl) (λ v t i.
-        sure-seq (λ v z. Within b ps rest w z) (Called os r w) (take_params b line ps vs t) (parts.take_params b line ps vs t) _ _ (taken-sure rest w r us ps x.body f.definition line vs g t i) (λ v t i.
-        sure-seq (EndsIn b rest w r ps) (Called os r w) (runs_body b u x.body t) (parts.runs_body b u' x.body t) _ _ (runs-sure rest w r us ps x.body there f.definition t i) (λ fl t i.
-        sure-seq (λ v z. Within b [] rest w z × Keeps t.world.memory.table z.memory.table) (Called os r w) (end_all b ps t) (parts.end_all b ps t) _ _ (ended-sure rest w r us ps x.body f.definition t i.0) (λ v y k.
-        sure-seq (Back b os w sound y.world) (Called os r w) (act b line EndsBody y) (act_plainly b line EndsBody y) _ _ (leaves-sure b os w sound line y k.0) (λ v q h.
-        (refl, (flow-value x r us f e fl q.world (flow-later b r fl y.world q.world h.2 (flow-later b r fl t.world y.world k.1 i.1)), h.1, h.0)))))))
+        sure-seq (λ v z. Within b [] rest w z) (Called os x r w) (act b line (BeginsBody x.name line) s) (act_plainly b line (BeginsBody x.name line) s) _ _ (begins-sure b os w sound x.name line s refl) (λ v t i.
+        sure-seq (λ v z. Within b ps rest w z) (Called os x r w) (take_params b line ps vs t) (parts.take_params b line ps vs t) _ _ (taken-sure rest w r us ps x.body f.definition line vs g t i) (λ v t i.
+        sure-seq (EndsIn b rest w r ps) (Called os x r w) (runs_body b u x.body t) (parts.runs_body b u' x.body t) _ _ (runs-sure rest w r us ps x.body there f.definition t i) (λ fl t i.
+        sure-seq (λ v z. Within b [] rest w z × Keeps t.world.memory.table z.memory.table) (Called os x r w) (end_all b ps t) (parts.end_all b ps t) _ _ (ended-sure rest w r us ps x.body f.definition t i.0) (λ v y k.
+        sure-seq (Back b os w sound y.world) (Called os x r w) (act b line EndsBody y) (act_plainly b line EndsBody y) _ _ (leaves-sure b os w sound line y k.0) (λ v q h.
+        let g : FlowOf b r fl q.world = flow-later b r fl y.world q.world h.2 (flow-later b r fl t.world y.world k.1 i.1) in
+        (refl, (flow-value x r us f e fl q.world g, h.1, h.0, main-there x r fl q.world g)))))))
 
-    given-sound : (os : List ℕ) (r t : Ty) (w : World) (x : Res Worth) → AreLike r t → Lands (Called os r w) x → GivesSound b os (λ v. v) t w x
-    given-sound os r t w (Gives v s) l h = (((l (layouts b.unit) v).0 h.0.0, h.0.1), h.1, h.2)
-    given-sound os r t w (Stops y s) l h = tt
+    given-sound : (os : List ℕ) (f : TypedFunction) (r t : Ty) (w : World) (x : Res Worth) → AreLike r t → Lands (Called os f r w) x → GivesSound b os (λ v. v) t w x
+    given-sound os f r t w (Gives v s) l h = (((l (layouts b.unit) v).0 h.0.0, h.0.1), h.1, h.2)
+    given-sound os f r t w (Stops y s) l h = tt
 
     calls-agree : (os : List ℕ) → CallsAgree b os (λ f vs line s. call_body b u (function_at b.unit f) vs line s) (λ f vs line s. parts.call_body b u' (function_at b.unit f) vs line s)
     calls-agree os f line t ts vs s h g sound =
         let x = function_at b.unit f in
         let sg = signature-of x.t t ts h.2 in
         let p = call-sure os x sg.0 sg.1 (unit.functions f sg.0 sg.1 h.0 sg.2) sg.2 h.1 vs line s (values-like b s.world ts sg.1 vs sg.4 g) sound in
-        (p.0, given-sound os sg.0 t s.world (call_body b u x vs line s) sg.3 p.1)
+        (p.0, given-sound os x sg.0 t s.world (call_body b u x vs line s) sg.3 p.1)
 
   -- every level
   pub levels : (k : ℕ) → Level b (below b k) (parts.below b k)

@@ -1,6 +1,6 @@
 -- The laws: from what holds of pieces of a run to what is said of expressions and operations (C17 6.3, 6.5).
 use Rattle.std.proofs.Common.{◌≡◌, ℕ, List, [], ◌∷◌, sym, subst}
-use Rattle.pv_types.specs.Ty.{Ty, Tys, NoTys, MoreTys}
+use Rattle.pv_types.specs.Ty.{Ty, Tys, NoTys, MoreTys, PointerTo}
 use Rattle.pv_types.specs.Sorts.{bare_type}
 use Rattle.pv_seq.specs.Sequencing.{Access}
 use Rattle.pv_typed.specs.TypedTree.{TypedTree}
@@ -13,16 +13,24 @@ use Rattle.pv_eval.specs.Sequenced.{Given}
 use Rattle.pv_eval.specs.Steps.{Calling}
 use Rattle.pv_eval.specs.Evaluation.{ev}
 use Rattle.pv_eval.specs.Library.{asks}
-use Rattle.pv_eval.specs.Operations.{Op, Asks, does}
+use Rattle.pv_eval.specs.CalleeParts.{function_in}
+use Rattle.pv_eval.specs.Operations.{Op, Asks, Finds, does}
+use Rattle.pv_exec.proofs.Memory.Rows.{Leads as Led}
+use Rattle.pv_exec.proofs.Memory.Ways.{OfTables}
+use Rattle.pv_exec.proofs.Memory.Worlds.{Onward}
+use Rattle.pv_exec.proofs.Memory.Operations.{does-on}
 use Rattle.pv_guards.specs.Typed.{given_type, IsTyped, IsFunction}
 use Rattle.pv_guards.specs.Soundness.{Value, AreValues, IsSound, IsAfter}
 use Rattle.pv_guards.specs.PlainRun as plain
 use Rattle.pv_guards.specs.Promises.{Promised}
-use Rattle.pv_guards.specs.Laws.{GivesSound, AnswersSound, CallsAgree, MeetsNoGuard, GivesItsType, DoesItsRule}
+use Rattle.pv_guards.specs.Laws.{GivesSound, AnswersSound, CallsAgree, MeetsNoGuard, GivesItsType, DoesItsRule, AnswersFunction, FindsFunction}
 use Rattle.pv_guards.proofs.Results.{Answering}
 use Rattle.pv_guards.proofs.Triples.{Order, Holds, After, Gave}
-use Rattle.pv_guards.proofs.Leaving.{ordered, after-itself, Keeping, Leaving, answers}
+use Rattle.pv_guards.proofs.Leaving.{ordered, after-itself, Keeping, Leaving, MayBeCalled, answers, callee, found}
 use Rattle.pv_guards.proofs.Promised.{promised}
+use Rattle.pv_guards.proofs.Ruled.{pointer-may, ruled}
+use Rattle.pv_guards.proofs.Suits.{finds-it, fair-known}
+use Rattle.pv_guards.proofs.Made.{led-changes}
 use Rattle.pv_guards.proofs.LibraryLeads.{asks-gives}
 use Rattle.pv_guards.proofs.Expressions.{ev-typed}
 
@@ -70,4 +78,16 @@ module _ (b : Setting) (os : List ℕ) where
   pub its-rule : (o : Op) (t : Ty) (w : World) → IsSound b os w → Promised b os w o t → DoesItsRule b os o t w
   its-rule o t w s h =
       let same = promised b os w o t h in
-      (same, answers-sound w s t (does b o w) (subst (λ d. Answering (Leaving b os w s (λ v z. Value b z t v)) d) (sym same) (answers b os w s o t h (λ f args k. asked f args t w s k))))
+      (ruled b os w s o t h, same, answers-sound w s t (does b o w) (subst (λ d. Answering (Leaving b os w s (λ v z. Value b z t v)) d) (sym same) (answers b os w s o t h (λ f args k. asked f args t w s k))))
+
+  -- 6.5.2.2p1: the function behind a value
+  answers-function : (t : Ty) (w : World) (s : IsSound b os w) (d : Done) → Answering (Leaving b os w s (MayBeCalled b t)) d → AnswersFunction b os t w d
+  answers-function t w s (Answers v z told) h = (function_in v, h.2.2, h.2.0, h.2.1, h.1, h.0)
+  answers-function t w s (Fails y p z told) h = tt
+  answers-function t w s (Breaks y p z told) h = tt
+
+  pub its-function : (t r : Ty) (v : Worth) (w : World) → IsSound b os w → Value b w (PointerTo r) v → FindsFunction b os t v w
+  its-function t r v w s h =
+      let same = finds-it b w t v (fair-known w v h.1) in
+      let onward = subst (λ d. Onward (OfTables (Led ⊥)) w d) same (does-on b (led-changes b) (Finds t v) tt w) in
+      (callee b os w s v (pointer-may v h.0), same, answers-function t w s (does b (Finds t v) w) (subst (λ d. Answering (Leaving b os w s (MayBeCalled b t)) d) (sym same) (found b os w s t v onward)))

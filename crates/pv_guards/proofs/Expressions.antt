@@ -1,5 +1,5 @@
 -- Typed expressions are evaluated with the guards as without them, and give values of their types (C17 6.5).
-use Rattle.std.proofs.Common.{append_assoc, append-nil, [], ◌∷◌, ◌++◌, ◌≡◌, ℕ, refl, sym, ap, subst, Bool, true, false, List, inl, inr, None}
+use Rattle.std.proofs.Common.{append_assoc, append-nil, [], ◌∷◌, ◌++◌, ◌≡◌, ℕ, refl, sym, ap, ◌∙◌, subst, Bool, true, false, List, inl, inr, None}
 use Rattle.std.specs.Prelude.{◌≤◌, ◌^◌, pos, not, if◌then◌else◌, Option}
 use Rattle.pv_num.specs.declared.kinds.IntKind.{IntKind}
 use Rattle.pv_num.specs.declared.kinds.IntKind.TheVariants.{Int}
@@ -16,7 +16,7 @@ use Rattle.pv_seq.specs.Sequencing.{Access, Open, open_against, sequence_point, 
 use Rattle.pv_world.specs.declared.got.How.TheVariants.{Rounds}
 use Rattle.pv_world.specs.Worlds.{Worth, Nothing, Missing, Scalar, Whole, World}
 use Rattle.pv_world.specs.Worths.{int, is_true, pointer_of, value_of}
-use Rattle.pv_eval.specs.States.{Setting, State, Res, Gives}
+use Rattle.pv_eval.specs.States.{Setting, State, Res, Gives, Stops}
 use Rattle.pv_eval.specs.TypeForms.{Lvalue, lvalue, kind_of, element_size, pointed_to}
 use Rattle.pv_num.specs.Kinds.{promotion_of}
 use Rattle.pv_eval.specs.Conversions.{how_to}
@@ -35,10 +35,10 @@ use Rattle.pv_eval.specs.Operations.{Op, act}
 use Rattle.pv_guards.specs.Plain.{act_plainly}
 use Rattle.pv_guards.specs.PlainRun as plain
 use Rattle.pv_guards.specs.PlainParts as parts
-use Rattle.pv_guards.specs.Typed.{IsTyped, IsTypedForm, IsPlace, HasType, HasValue, MayConvert, MayCast, given_type, given_by, pointee_type, IsValueType, IsIntegerType, IsSum, IsElementPointer, MayStep, MayBeRight, IsFunction, ArePassed, IsResultOf}
+use Rattle.pv_guards.specs.Typed.{IsTyped, IsTypedForm, IsPlace, HasType, HasValue, MayConvert, MayCast, given_type, given_by, pointee_type, IsValueType, IsScalarType, IsIntegerType, IsSum, IsElementPointer, MayStep, MayBeRight, IsFunction, ArePassed, AreAllLike, IsResultOf}
 use Rattle.pv_guards.specs.Fair.{IsArgument, HasAddress}
 use Rattle.pv_guards.specs.Soundness.{Value, AreValues, IsSound, IsAfter}
-use Rattle.pv_guards.specs.Promises.{Promised, FollowsTo}
+use Rattle.pv_guards.specs.Promises.{Promised, FollowsTo, Shifts}
 use Rattle.pv_guards.specs.Worths.{IsThere, IsScalar, IsWhole, IsNothing, IsOfType}
 use Rattle.pv_object.specs.declared.values.Scalar.TheVariants as scalar
 use Rattle.pv_object.specs.declared.values.Value.TheVariants.{Int as IntValue, Unset, Pointer as PointerValue}
@@ -47,7 +47,9 @@ use Rattle.pv_guards.proofs.Results.{Answering}
 use Rattle.pv_guards.proofs.Leaving.{ordered, Keeping, MayBeCalled, values-later, value-fair}
 use Rattle.pv_guards.proofs.Acting as acting
 use Rattle.pv_guards.proofs.Signatures.{called-function}
-use Rattle.pv_guards.proofs.Triples.{Order, Holds, Gave, gives, seq, weaker, choice, ticks, done-holds}
+use Rattle.pv_guards.proofs.Taken.{ArePlain, Take, calls-by, take-all, take-further, take-one}
+use Rattle.pv_guards.proofs.Places.{GivesThere, place-there}
+use Rattle.pv_guards.proofs.Triples.{Order, Holds, After, Gave, gives, seq, weaker, choice, ticks, done-holds}
 
 -- what evaluation gives of an lvalue
 if-true : (c : Bool) (t u : Ty) → c ≡ true → (if c then t else u) ≡ t
@@ -250,6 +252,9 @@ module _ (b : Setting) (os : List ℕ)
   own-value : (a : TypedTree) (t : Ty) → HasValue a t → (w : World) (v : Worth) → Value b w (given_type a) v → Value b w t v
   own-value a t e w v h = subst (λ u. Value b w u v) e.1 h
 
+  scalar-given : (a : TypedTree) → HasValue a (type_of a) → IsScalarType (type_of a) → IsScalarType (given_type a)
+  scalar-given a e h = subst IsScalarType (sym e.1) h
+
   followed-by : (c : Bool) (s : Ty) → is_void s ≡ c → FollowsTo (is_void (if c then VoidTy else s)) (if not (is_void (if c then VoidTy else s)) then PointerTo (if c then VoidTy else s) else (if c then VoidTy else s))
   followed-by true s e = refl
   followed-by false s e = subst (λ c. FollowsTo c (if not (is_void s) then PointerTo s else s)) (sym e) (s, if-true (not (is_void s)) (PointerTo s) s (ap not e))
@@ -272,7 +277,7 @@ module _ (b : Setting) (os : List ℕ)
       combining-way w line (if is_down o then bin.Sub else bin.Add) (promotion_of k) k v (int (pos 1))
       (k, promotion_of k, promoted_is k, promoted_widens k, step-right (is_down o) (promotion_of k), h, (one_fits k, tt), refl)
   stepping-way w line (PointerTo s) o v m h =
-      acts line (op.Moves (is_down o) true (element_size b (PointerTo s)) v (int (pos 1))) (PointerTo s) w (PointerTo s, IntTy Int, s, h, (one_fits Int, tt), m.small, refl)
+      acts line (op.Moves (is_down o) true (element_size b (PointerTo s)) v (int (pos 1))) (PointerTo s) w (PointerTo s, IntTy Int, s, h, (one_fits Int, tt), m.small, refl, ((s, refl), tt))
   stepping-way w line VoidTy o v m h = absurd m
   stepping-way w line (ArrayOf t n) o v m h = absurd m
   stepping-way w line (StructTag n) o v m h = absurd m
@@ -302,6 +307,31 @@ module _ (b : Setting) (os : List ℕ)
   element-pointer (FunctionTy t ts c) s = absurd s
   element-pointer (ConstOf t) s = absurd s
 
+  -- 6.5.6p2, 6.5.2.1p1: one of the two is a pointer, and the other an integer
+  pointer-first : (t u r : Ty) → t ≡ r → IsElementPointer (layouts b.unit) r → IsIntegerType u → Shifts (is_pointer t) t u
+  pointer-first t u (PointerTo p) e s i = subst (λ t. Shifts (is_pointer t) t u) (sym e) ((p, refl), i)
+  pointer-first t u (IntTy k) e s i = absurd s
+  pointer-first t u VoidTy e s i = absurd s
+  pointer-first t u (ArrayOf r n) e s i = absurd s
+  pointer-first t u (StructTag n) e s i = absurd s
+  pointer-first t u (UnionTag n) e s i = absurd s
+  pointer-first t u (FunctionTy r ts c) e s i = absurd s
+  pointer-first t u (ConstOf r) e s i = absurd s
+
+  pointer-second : (t u r : Ty) → u ≡ r → IsElementPointer (layouts b.unit) r → IsIntegerType t → Shifts (is_pointer t) t u
+  pointer-second (IntTy k) u r e s i = let p = (element-pointer r s).1 in (tt, (p.0, e ∙ p.1))
+  pointer-second VoidTy u r e s i = absurd i
+  pointer-second (PointerTo t) u r e s i = absurd i
+  pointer-second (ArrayOf t n) u r e s i = absurd i
+  pointer-second (StructTag n) u r e s i = absurd i
+  pointer-second (UnionTag n) u r e s i = absurd i
+  pointer-second (FunctionTy t ts c) u r e s i = absurd i
+  pointer-second (ConstOf t) u r e s i = absurd i
+
+  sum-shifts : (t u r : Ty) → IsSum (layouts b.unit) t u r → Shifts (is_pointer t) t u
+  sum-shifts t u r (inl (e, s, i)) = pointer-first t u r e s i
+  sum-shifts t u r (inr (e, s, i)) = pointer-second t u r e s i
+
   sum-pointer : (t u r : Ty) → IsSum (layouts b.unit) t u r → (element_size b r ≤ 2 ^ 32) × ((p : Ty) × (r ≡ PointerTo p))
   sum-pointer t u r (inl (e, s, i)) = element-pointer r s
   sum-pointer t u r (inr (e, s, i)) = element-pointer r s
@@ -329,6 +359,23 @@ module _ (b : Setting) (os : List ℕ)
     handed-way : (x : TypedTree) (t : Ty) (w : World) (v : Worth) → IsTyped b.unit os x → HasType x t → Value b w (given_type x) v → Holds order (λ v w. Value b w t v × IsThere v) w (accepted_value b x v) (parts.accepted_value b x v)
     handed-way x t w v h e g =
         seq order (Is t) (λ v w. Value b w t v × IsThere v) w (with_conversion b x v) (parts.with_conversion b x v) _ _ (converted-way x t w v h e g) (λ v z f q. acting.accepts-way b os (line_of x) t v z q)
+
+    -- 6.3.2.1p1: the place of an lvalue, which is there
+    abbrev Placed : TypedTree → Given → World → Type 0
+    Placed a g z = Value b z (PointerTo (type_of a)) g.value × IsThere g.value
+
+    placed-after : (a : TypedTree) → IsPlace a → (w : World) (r : Res Given) → GivesThere r → After order (Gave order (given_type a)) w r → After order (Placed a) w r
+    placed-after a e w (Gives g s) there h = (h.0, h.1, (place-value a e s.world g.value h.2, there))
+    placed-after a e w (Stops y s) there h = tt
+
+    placed : (a : TypedTree) → IsPlace a → (fs : List Access) (w : World) → Typed (given_type a) w (ev b call a fs) (plain.ev b call' a fs) → Holds order (Placed a) w (ev b call a fs) (plain.ev b call' a fs)
+    placed a e fs w h s g sound = let p = h s g sound in (p.0, placed-after a e s.world (ev b call a fs s) (place-there b call a e fs s) p.1)
+
+    pub place-way : (w : World) (a : TypedTree) (t : Ty) (j : Open) (go go' : Open → Worth → State → Res Given) → IsPlace a → ((fs : List Access) → Typed (given_type a) w (ev b call a fs) (plain.ev b call' a fs))
+        → ((j : Open) (p : Worth) (z : World) → To w z → Value b z (PointerTo (type_of a)) p × IsThere p → Typed t z (go j p) (go' j p)) → Typed t w (λ s. operand (ev b call a) j s go) (λ s. operand (plain.ev b call' a) j s go')
+    place-way w a t j go go' e h g =
+        seq order (Placed a) (Gave order t) w (ev b call a (beside j)) (plain.ev b call' a (beside j)) (λ x s. go (with_given j x) x.value s) (λ x s. go' (with_given j x) x.value s) (placed a e (beside j) w (h (beside j))) (λ x z f q.
+        g (with_given j x) x.value z f q)
 
     -- one argument more
     each-append : {A : Type 0} (P : A → Type 0) (xs : List A) (x : A) → Each P xs → P x → Each P (xs ++ x ∷ [])
@@ -391,8 +438,8 @@ module _ (b : Setting) (os : List ℕ)
       form-typed t line (String l) h fs w = work-way w line (op.NamesLiteral l) (PointerTo t) (open_against fs) (t, refl, h)
       form-typed t line (Function f) h fs w = work-way w line (op.NamesFunction f) (PointerTo t) (open_against fs) (t, refl, h)
       form-typed t line (Read a) h fs w =
-          operand-way w (given_type a) t (open_against fs) (ev b call a) (plain.ev b call' a) _ _ (λ fs. ev-typed a h.0 fs w) (λ j p z f q.
-          reading-way z (lvalue b (type_of a)) line p j t t node_value node_value (type_of a, refl, h.3, subst IsValueType h.2 h.4, h.2, place-value a h.1 z p q) (λ j v y g r. done-holds order y t j v r))
+          place-way w a t (open_against fs) _ _ h.1 (λ fs. ev-typed a h.0 fs w) (λ j p z f q.
+          reading-way z (lvalue b (type_of a)) line p j t t node_value node_value (type_of a, refl, h.3, subst IsValueType h.2 h.4, h.2, q.0, q.1) (λ j v y g r. done-holds order y t j v r))
       form-typed t line (Address a) h fs w =
           operand-way w (given_type a) t (open_against fs) (ev b call a) (plain.ev b call' a) node_value node_value (λ fs. ev-typed a h.0 fs w) (λ j v z f q.
           done-holds order z t j v (subst (λ u. Value b z u v) (sym h.2) (place-value a h.1 z v q)))
@@ -401,7 +448,7 @@ module _ (b : Setting) (os : List ℕ)
           done-holds order z (type_of a) j v (own-value a (type_of a) h.1 z v q))
       form-typed t line (Not a) h fs w =
           operand-way w (given_type a) t (open_against fs) (ev b call a) (plain.ev b call' a) _ _ (λ fs. ev-typed a h.0 fs w) (λ j v z f q.
-          work-way z line (op.Negates v) t j (given_type a, q, h.3))
+          work-way z line (op.Negates v) t j (given_type a, q, h.3, scalar-given a h.1 h.2))
       form-typed t line (Unary o a) h fs w =
           operand-way w (given_type a) t (open_against fs) (ev b call a) (plain.ev b call' a) _ _ (λ fs. ev-typed a h.1 fs w) (λ j v z f q.
           seq order (Is (IntTy h.0)) (Gave order t) z (with_conversion b a v) (parts.with_conversion b a v) _ _ (converted-way a (IntTy h.0) z v h.1 h.2 q) (λ v y g r.
@@ -421,11 +468,11 @@ module _ (b : Setting) (os : List ℕ)
           later-way z (given_type d) t (sequence_point j) (ev b call d) (plain.ev b call' d) node_value node_value (λ fs. ev-typed d h.2 fs z) (λ j x y g r.
           done-holds order y t j x (own-value d t h.3 y x r)))
       form-typed t line (Assign a d) h fs w =
-          operand-way w (given_type a) t (open_against fs) (ev b call a) (plain.ev b call' a) _ _ (λ fs. ev-typed a h.0 fs w) (λ j p z f q.
+          place-way w a t (open_against fs) _ _ h.1 (λ fs. ev-typed a h.0 fs w) (λ j p z f q.
           operand-way z (given_type d) t j (ev b call d) (plain.ev b call' d) _ _ (λ fs. ev-typed d h.2 fs z) (λ j v y g r.
           seq order (Is t) (Gave order t) y (with_conversion b d v) (parts.with_conversion b d v) _ _ (converted-way d t y v h.2 h.3 r) (λ v k i s.
           writing-way k (lvalue b (type_of a)) line p v (source_of d v) j t t node_value node_value
-          (type_of a, refl, h.5, subst IsValueType h.4 h.6, h.4, order.keeps (PointerTo (type_of a)) p (order.on g i) (place-value a h.1 z p q), s) (λ j v y g r. done-holds order y t j v r))))
+          (type_of a, refl, h.5, subst IsValueType h.4 h.6, h.4, order.keeps (PointerTo (type_of a)) p (order.on g i) q.0, s, q.1) (λ j v y g r. done-holds order y t j v r))))
       form-typed t line (Call f xs) h fs w = call-typed t line f h.0 [] xs h.2 (open_against fs) w (λ z g rest k. calls line f t h.0 rest z h.1 k)
       form-typed t line (CallPointer a xs) h fs w =
           let ft = FunctionTy h.0 h.1 h.2 in
@@ -435,7 +482,9 @@ module _ (b : Setting) (os : List ℕ)
           let one = called-function b h.0 h.1 h.2 (function_in f) r.0 r.1 h.7 in
           weaker order (Is h.0) (Is t) (λ v x m. ((h.5 (layouts b.unit) v).0 m.0, m.1)) y (call (function_in f) rest line) (call' (function_in f) rest line)
           (calls line (function_in f) h.0 h.1 rest y one.0 (k one.1)))))
-      form-typed t line (LibraryCall f xs) h fs w = ask-typed t line f h.0 h.1 [] xs h.2 h.3 (open_against fs) w tt
+      form-typed t line (LibraryCall f xs) h fs w =
+          let c = calls-by f h.0 h.1 h.4 in
+          ask-typed t line f h.0 c.parameters h.1 [] xs h.2 h.3 c.like c.plain (open_against fs) w tt (λ rest e. c.taken rest e)
       form-typed t line (ArrayPointer a) h fs w =
           operand-way w (given_type a) t (open_against fs) (ev b call a) (plain.ev b call' a) node_value node_value (λ fs. ev-typed a h.0 fs w) (λ j v z f q.
           done-holds order z t j v (subst (λ u. Value b z u v) (sym h.2.1) (place-value a h.1 z v q)))
@@ -455,13 +504,13 @@ module _ (b : Setting) (os : List ℕ)
           operand-way w (given_type a) (PointerTo t) (open_against fs) (ev b call a) (plain.ev b call' a) _ _ (λ fs. ev-typed a h.0 fs w) (λ j v z f q.
           operand-way z (given_type d) (PointerTo t) j (ev b call d) (plain.ev b call' d) _ _ (λ fs. ev-typed d h.2 fs z) (λ j x y g r.
           work-way y line (op.Moves false (is_pointer (type_of a)) (element_size b (if is_pointer (type_of a) then type_of a else type_of d)) v x) (PointerTo t) j
-          (type_of a, type_of d, t, order.keeps (type_of a) v g (own-value a (type_of a) h.1 z v q), own-value d (type_of d) h.3 y x r, element-small (type_of a) (type_of d) t h.4, refl)))
+          (type_of a, type_of d, t, order.keeps (type_of a) v g (own-value a (type_of a) h.1 z v q), own-value d (type_of d) h.3 y x r, element-small (type_of a) (type_of d) t h.4, refl, sum-shifts (type_of a) (type_of d) (PointerTo t) h.4)))
       form-typed t line (PointerSum o a d) h fs w =
           operand-way w (given_type a) t (open_against fs) (ev b call a) (plain.ev b call' a) _ _ (λ fs. ev-typed a h.0 fs w) (λ j v z f q.
           operand-way z (given_type d) t j (ev b call d) (plain.ev b call' d) _ _ (λ fs. ev-typed d h.2 fs z) (λ j x y g r.
           let e = sum-pointer (type_of a) (type_of d) t h.4 in
           work-way y line (op.Moves (is_minus o) (is_pointer (type_of a)) (element_size b t) v x) t j
-          (type_of a, type_of d, e.1.0, order.keeps (type_of a) v g (own-value a (type_of a) h.1 z v q), own-value d (type_of d) h.3 y x r, e.0, e.1.1)))
+          (type_of a, type_of d, e.1.0, order.keeps (type_of a) v g (own-value a (type_of a) h.1 z v q), own-value d (type_of d) h.3 y x r, e.0, e.1.1, sum-shifts (type_of a) (type_of d) t h.4)))
       form-typed t line (PointerDifference a d) h fs w =
           operand-way w (given_type a) t (open_against fs) (ev b call a) (plain.ev b call' a) _ _ (λ fs. ev-typed a h.2 fs w) (λ j v z f q.
           operand-way z (given_type d) t j (ev b call d) (plain.ev b call' d) _ _ (λ fs. ev-typed d h.4 fs z) (λ j x y g r.
@@ -487,19 +536,19 @@ module _ (b : Setting) (os : List ℕ)
           work-way m line (op.Equals (is_unequal o) v x) t j (h.0, h.1, order.keeps (PointerTo h.0) v n p, s, h.6)))))
       form-typed t line (LogicalAnd a d) h fs w =
           operand-way w (given_type a) t (open_against fs) (ev b call a) (plain.ev b call' a) _ _ (λ fs. ev-typed a h.0 fs w) (λ j v z f q.
-          doing-way z line (op.Tests v) t t _ _ (given_type a, q, h.6) (λ v y g r.
+          doing-way z line (op.Tests v) t t _ _ (given_type a, q, h.6, scalar-given a h.1 h.4) (λ v y g r.
           choice order (Gave order t) y (is_true v) _ _ _ _
-          (later-way y (given_type d) t (sequence_point j) (ev b call d) (plain.ev b call' d) _ _ (λ fs. ev-typed d h.2 fs y) (λ j x k i p. work-way k line (op.Tests x) t j (given_type d, p, h.6)))
+          (later-way y (given_type d) t (sequence_point j) (ev b call d) (plain.ev b call' d) _ _ (λ fs. ev-typed d h.2 fs y) (λ j x k i p. work-way k line (op.Tests x) t j (given_type d, p, h.6, scalar-given d h.3 h.5)))
           (done-holds order y t (sequence_point j) v r)))
       form-typed t line (LogicalOr a d) h fs w =
           operand-way w (given_type a) t (open_against fs) (ev b call a) (plain.ev b call' a) _ _ (λ fs. ev-typed a h.0 fs w) (λ j v z f q.
-          doing-way z line (op.Tests v) t t _ _ (given_type a, q, h.6) (λ v y g r.
+          doing-way z line (op.Tests v) t t _ _ (given_type a, q, h.6, scalar-given a h.1 h.4) (λ v y g r.
           choice order (Gave order t) y (is_true v) _ _ _ _
           (done-holds order y t (sequence_point j) v r)
-          (later-way y (given_type d) t (sequence_point j) (ev b call d) (plain.ev b call' d) _ _ (λ fs. ev-typed d h.2 fs y) (λ j x k i p. work-way k line (op.Tests x) t j (given_type d, p, h.6)))))
+          (later-way y (given_type d) t (sequence_point j) (ev b call d) (plain.ev b call' d) _ _ (λ fs. ev-typed d h.2 fs y) (λ j x k i p. work-way k line (op.Tests x) t j (given_type d, p, h.6, scalar-given d h.3 h.5)))))
       form-typed t line (Conditional a d c) h fs w =
           operand-way w (given_type a) t (open_against fs) (ev b call a) (plain.ev b call' a) _ _ (λ fs. ev-typed a h.0 fs w) (λ j v z f q.
-          doing-way z line (op.Tests v) (IntTy Int) t _ _ (given_type a, q, refl) (λ v y g r.
+          doing-way z line (op.Tests v) (IntTy Int) t _ _ (given_type a, q, refl, scalar-given a h.1 h.2) (λ v y g r.
           choice order (Gave order t) y (is_true v) _ _ _ _
           (later-way y (given_type d) t (sequence_point j) (ev b call d) (plain.ev b call' d) _ _ (λ fs. ev-typed d h.3 fs y) (λ j x k i p.
           seq order (Is t) (Gave order t) k (with_conversion b d x) (parts.with_conversion b d x) (node_value j) (node_value j) (converted-way d t k x h.3 h.4 p) (λ x m n s. done-holds order m t j x s)))
@@ -507,29 +556,29 @@ module _ (b : Setting) (os : List ℕ)
           seq order (Is t) (Gave order t) k (with_conversion b c x) (parts.with_conversion b c x) (node_value j) (node_value j) (converted-way c t k x h.5 h.6 p) (λ x m n s. done-holds order m t j x s)))))
       form-typed t line (CompoundAssign o k a d) h fs w =
           let valued : IsValueType t = subst IsValueType (sym h.6) tt in
-          operand-way w (given_type a) t (open_against fs) (ev b call a) (plain.ev b call' a) _ _ (λ fs. ev-typed a h.2 fs w) (λ j p z f q.
-          reading-way z (lvalue b (type_of a)) line p j t t _ _ (type_of a, refl, h.10, subst IsValueType h.7 valued, h.7, place-value a h.3 z p q) (λ j v y g r.
+          place-way w a t (open_against fs) _ _ h.3 (λ fs. ev-typed a h.2 fs w) (λ j p z f q.
+          reading-way z (lvalue b (type_of a)) line p j t t _ _ (type_of a, refl, h.10, subst IsValueType h.7 valued, h.7, q.0, q.1) (λ j v y g r.
           operand-way y (given_type d) t j (ev b call d) (plain.ev b call' d) _ _ (λ fs. ev-typed d h.4 fs y) (λ j x c i s.
           seq order (Is (IntTy k)) (Gave order t) c (act b line (op.Converts (Rounds k) v)) (act_plainly b line (op.Converts (Rounds k) v)) _ _ (acts line (op.Converts (Rounds k) v) (IntTy k) c (t, order.keeps t v i r, inr (k, refl, refl, subst IsIntegerType (sym h.6) tt))) (λ v m n s2.
           seq order (Is (IntTy h.1)) (Gave order t) m (with_conversion b d x) (parts.with_conversion b d x) _ _ (converted-way d (IntTy h.1) m x h.4 h.5 (order.keeps (given_type d) x n s)) (λ x m2 n2 s3.
           seq order (Is (IntTy (kind_of t))) (Gave order t) m2 (combining b line o k (kind_of t) v x) (parts.combining b line o k (kind_of t) v x) _ _ (combining-way m2 line o k (kind_of t) v x (k, h.1, h.8, λ n g. g, h.9, order.keeps (IntTy k) v n2 s2, s3, refl)) (λ v m3 n3 s4.
           writing-way m3 (lvalue b (type_of a)) line p v None j t t node_value node_value
-          (type_of a, refl, h.10, subst IsValueType h.7 valued, h.7, order.keeps (PointerTo (type_of a)) p (order.on g (order.on i (order.on n (order.on n2 n3)))) (place-value a h.3 z p q), subst (λ u. Value b m3 u v) (int-type t h.0 h.6) s4) (λ j v y g r. done-holds order y t j v r)))))))
+          (type_of a, refl, h.10, subst IsValueType h.7 valued, h.7, order.keeps (PointerTo (type_of a)) p (order.on g (order.on i (order.on n (order.on n2 n3)))) q.0, subst (λ u. Value b m3 u v) (int-type t h.0 h.6) s4, q.1) (λ j v y g r. done-holds order y t j v r)))))))
       form-typed t line (PointerAssign o a d) h fs w =
           let valued : IsValueType t = subst IsValueType (sym h.6) tt in
-          operand-way w (given_type a) t (open_against fs) (ev b call a) (plain.ev b call' a) _ _ (λ fs. ev-typed a h.1 fs w) (λ j p z f q.
-          reading-way z (lvalue b (type_of a)) line p j t t _ _ (type_of a, refl, h.9, subst IsValueType h.7 valued, h.7, place-value a h.2 z p q) (λ j v y g r.
+          place-way w a t (open_against fs) _ _ h.2 (λ fs. ev-typed a h.1 fs w) (λ j p z f q.
+          reading-way z (lvalue b (type_of a)) line p j t t _ _ (type_of a, refl, h.9, subst IsValueType h.7 valued, h.7, q.0, q.1) (λ j v y g r.
           operand-way y (given_type d) t j (ev b call d) (plain.ev b call' d) _ _ (λ fs. ev-typed d h.3 fs y) (λ j x c i s.
           doing-way c line (op.Moves (is_minus o) true (element_size b t) v x) t t _ _
-          (t, type_of d, h.0, order.keeps t v i r, own-value d (type_of d) h.4 c x s, subst (λ u. element_size b u ≤ 2 ^ 32) (sym h.6) h.8.small, h.6) (λ v m n s2.
+          (t, type_of d, h.0, order.keeps t v i r, own-value d (type_of d) h.4 c x s, subst (λ u. element_size b u ≤ 2 ^ 32) (sym h.6) h.8.small, h.6, ((h.0, h.6), h.5)) (λ v m n s2.
           writing-way m (lvalue b (type_of a)) line p v None j t t node_value node_value
-          (type_of a, refl, h.9, subst IsValueType h.7 valued, h.7, order.keeps (PointerTo (type_of a)) p (order.on g (order.on i n)) (place-value a h.2 z p q), s2) (λ j v y g r. done-holds order y t j v r)))))
+          (type_of a, refl, h.9, subst IsValueType h.7 valued, h.7, order.keeps (PointerTo (type_of a)) p (order.on g (order.on i n)) q.0, s2, q.1) (λ j v y g r. done-holds order y t j v r)))))
       form-typed t line (Increment o a) h fs w =
-          operand-way w (given_type a) t (open_against fs) (ev b call a) (plain.ev b call' a) _ _ (λ fs. ev-typed a h.0 fs w) (λ j p z f q.
-          reading-way z (lvalue b (type_of a)) line p j t t _ _ (type_of a, refl, h.4, subst IsValueType h.2 (step-valued t h.3), h.2, place-value a h.1 z p q) (λ j v y g r.
+          place-way w a t (open_against fs) _ _ h.1 (λ fs. ev-typed a h.0 fs w) (λ j p z f q.
+          reading-way z (lvalue b (type_of a)) line p j t t _ _ (type_of a, refl, h.4, subst IsValueType h.2 (step-valued t h.3), h.2, q.0, q.1) (λ j v y g r.
           seq order (Is t) (Gave order t) y (stepping b line t o v) (parts.stepping b line t o v) _ _ (stepping-way y line t o v h.3 r) (λ x m n s.
           writing-way m (lvalue b (type_of a)) line p x None j t t _ _
-          (type_of a, refl, h.4, subst IsValueType h.2 (step-valued t h.3), h.2, order.keeps (PointerTo (type_of a)) p (order.on g n) (place-value a h.1 z p q), s) (λ j x c i k.
+          (type_of a, refl, h.4, subst IsValueType h.2 (step-valued t h.3), h.2, order.keeps (PointerTo (type_of a)) p (order.on g n) q.0, s, q.1) (λ j x c i k.
           done-holds order c t j (if is_after o then v else x) (either-value (is_after o) c t v x (order.keeps t v (order.on n i) r) k)))))
 
       -- 6.5.2.2p10: the arguments that are left, and the call
@@ -567,15 +616,19 @@ module _ (b : Setting) (os : List ℕ)
           subst (λ vs. Holds order (Is t) a (call (function_in f) vs line) (call' (function_in f) vs line)) (sym (append_assoc got (y ∷ []) rest)) (k a (order.on g (order.on i c)) (y ∷ rest) (λ s. (order.keeps (bare_type u) y c n.0, n.1, d s)) f e))))
 
       -- 7.1.4p1: the same of a function of the library
-      ask-typed : (t : Ty) (line : ℕ) (f : Library) (us : Tys) (variadic : Bool) (got : List Arg) (xs : Arguments) → IsResultOf f t → ArePassed b.unit os us variadic xs → (j : Open) (w : World) → Each (λ (x : Arg). IsArgument w.memory.table x.value) got → Typed t w (ev_ask b call line f got xs j) (parts.ev_ask b call' line f got xs j)
-      ask-typed t line f NoTys variadic got NoArguments r h j w k = work-way w line (op.Asks f got) t (sequence_point j) (r, k)
-      ask-typed t line f (MoreTys u us) variadic got NoArguments r h j w k = absurd h
-      ask-typed t line f NoTys false got (MoreArguments x xs) r h j w k = absurd h
-      ask-typed t line f NoTys true got (MoreArguments x xs) r h j w k =
+      ask-typed : (t : Ty) (line : ℕ) (f : Library) (us ps : Tys) (variadic : Bool) (got : List Arg) (xs : Arguments) → IsResultOf f t → ArePassed b.unit os us variadic xs → AreAllLike us ps → ArePlain ps → (j : Open) (w : World) → Each (λ (x : Arg). IsArgument w.memory.table x.value) got → Take f ps variadic got
+          → Typed t w (ev_ask b call line f got xs j) (parts.ev_ask b call' line f got xs j)
+      ask-typed t line f NoTys NoTys variadic got NoArguments r h l p j w k m = work-way w line (op.Asks f got) t (sequence_point j) (r, k, take-all f variadic got m)
+      ask-typed t line f NoTys (MoreTys q qs) variadic got xs r h l p j w k m = absurd l
+      ask-typed t line f (MoreTys u us) NoTys variadic got xs r h l p j w k m = absurd l
+      ask-typed t line f (MoreTys u us) (MoreTys q qs) variadic got NoArguments r h l p j w k m = absurd h
+      ask-typed t line f NoTys NoTys false got (MoreArguments x xs) r h l p j w k m = absurd h
+      ask-typed t line f NoTys NoTys true got (MoreArguments x xs) r h l kinds j w k m =
           operand-way w (given_type x) t j (ev b call x) (plain.ev b call' x) _ _ (λ fs. ev-typed x h.0 fs w) (λ j v z g q.
           seq order (λ v w. Value b w (type_of x) v × IsThere v) (Gave order t) z (accepted_value b x v) (parts.accepted_value b x v) _ _ (handed-way x (type_of x) z v h.0 h.1 q) (λ v y i p.
-          ask-typed t line f NoTys true (got ++ argument x v ∷ []) xs r h.3 j y (more-fair w z y got x (type_of x) v g i k p.0)))
-      ask-typed t line f (MoreTys u us) variadic got (MoreArguments x xs) r h j w k =
+          ask-typed t line f NoTys NoTys true (got ++ argument x v ∷ []) xs r h.3 l kinds j y (more-fair w z y got x (type_of x) v g i k p.0) (take-further f got (argument x v) m)))
+      ask-typed t line f (MoreTys u us) (MoreTys e es) variadic got (MoreArguments x xs) r h l kinds j w k m =
           operand-way w (given_type x) t j (ev b call x) (plain.ev b call' x) _ _ (λ fs. ev-typed x h.0 fs w) (λ j v z g q.
           seq order (λ v w. Value b w (bare_type u) v × IsThere v) (Gave order t) z (accepted_value b x v) (parts.accepted_value b x v) _ _ (handed-way x (bare_type u) z v h.0 h.1 q) (λ v y i p.
-          ask-typed t line f us variadic (got ++ argument x v ∷ []) xs r h.3 j y (more-fair w z y got x (bare_type u) v g i k p.0)))
+          ask-typed t line f us es variadic (got ++ argument x v ∷ []) xs r h.3 l.1 kinds.1 j y (more-fair w z y got x (bare_type u) v g i k p.0)
+          (take-one f (layouts b.unit) u e es variadic got (argument x v) v refl l.0 kinds.0 p.0.0 p.1 m)))

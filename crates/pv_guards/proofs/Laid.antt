@@ -1,5 +1,5 @@
 -- What a sound table keeps of its instances (the memory model): none shares a byte with another, and the first and last addresses are not theirs.
-use Rattle.std.proofs.Common.{◌≡◌, ℕ, ◌-◌, ◌<◌, Bool, List, [], ◌∷◌, zero, suc, length, get_or, Some, sym, ◌∙◌, refl, subst, inl, inr, ⊎_elim, arith}
+use Rattle.std.proofs.Common.{◌≡◌, ℕ, ◌-◌, ◌<◌, List, [], ◌∷◌, zero, suc, length, get_or, Some, sym, ◌∙◌, refl, subst, inl, inr, ⊎_elim, arith}
 use Rattle.std.proofs.lemmas.Bool.{cases_lt}
 use Rattle.pv_prov.specs.declared.pairs.Twin.{Twin}
 use Rattle.pv_inst.specs.declared.values.Instance.{Instance}

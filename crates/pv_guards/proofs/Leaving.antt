@@ -1,5 +1,5 @@
 -- What each operation of an expression leaves: a later world that is as sound, and a value of its type (C17 6.3, 6.5).
-use Rattle.std.proofs.Common.{◌≡◌, ℕ, zero, suc, ◌+◌, ◌<◌, ◌≤◌, ◌^◌, Bool, true, false, List, [], ◌∷◌, length, take, drop, Option, Some, None, Result, Ok, Err, IfOk, refl, sym, ap, ◌∙◌, subst, arith, inl, inr}
+use Rattle.std.proofs.Common.{◌≡◌, ℕ, zero, suc, ◌+◌, ◌<◌, ◌≤◌, ◌^◌, Bool, true, false, List, [], ◌∷◌, length, take, drop, Option, Some, None, Result, Ok, Err, IfOk, is_some, refl, sym, ap, ◌∙◌, subst, arith, inl, inr}
 use Rattle.std.specs.Prelude.{unwrap_or, if◌then◌else◌, ◌-◌, ◌==◌, slice_index_or, pos}
 use Rattle.std.specs.FinMap as map
 use Rattle.std.proofs.lemmas.Bool.{false≢true}
@@ -63,7 +63,9 @@ use Rattle.pv_guards.specs.Worths.{IsScalar, IsWhole, IsOfType, IsThere}
 use Rattle.pv_guards.specs.Typed.{IsTag, IsValueType, HasBody, IsInScope}
 use Rattle.pv_guards.specs.Fair.{IsFair, AreFair, IsFairValue, IsArgument}
 use Rattle.pv_guards.specs.Soundness.{Value, IsFairWorth, IsHome, IsCode, IsSound, AllLiveStill, IsAfter}
+use Rattle.pv_guards.specs.Ruled.{may_be_pointer, is_of_function, is_callee}
 use Rattle.pv_guards.specs.Plain.{plain_doing}
+use Rattle.pv_guards.proofs.Numbers.{both}
 use Rattle.pv_guards.specs.Promises.{Promised}
 use Rattle.pv_guards.proofs.Fair.{Keeps, bytes-later, store-later, read-fair, take-fair, drop-fair, written-fair, encode-fair}
 use Rattle.pv_guards.proofs.Living.{all-same, all-on, home-number, home-later, code-earlier, longer-live, reach-live, code-live}
@@ -155,13 +157,15 @@ sound-after b os w z l h same f s =
       apart = apart-later b os w z h.statics h.bodies s;
       literals = λ i g. subst N (sym (ap (λ m. unwrap_or (map.get m i) 0) h.literals)) (number-led w.memory.table z.memory.table l _ (s.literals i g));
       functions = λ i g. subst N (sym (ap (λ m. unwrap_or (map.get m i) 0) h.functions)) (number-led w.memory.table z.memory.table l _ (s.functions i g));
-      code = λ i g c e. s.code i g (code-earlier w.memory.table z.memory.table h.lives i c) (sym (ap (λ (os : List (Option ℕ)). owner_in os i) same) ∙ e);
+      code = λ i c.
+          let g = s.code i (code-earlier w.memory.table z.memory.table h.lives i c) in
+          (g.0, ap (λ (os : List (Option ℕ)). owner_in os i) same ∙ g.1, g.2);
       owned = let more = longer-live w.memory.table z.memory.table h.lives in let owners : length z.owners ≡ length w.owners = ap length same in let few = s.owned in omega (arith, more, owners, few);
     }
 
 -- 6.5.2.2p1, 6.3.2.3p8, 6.9p5: a function that may be called so, and is defined
 abbrev pub MayBeCalled : Setting → Ty → Worth → World → Type 0
-MayBeCalled b t v z = (may_call b t (Some (function_in v)) ≡ true) × HasBody b.unit (function_in v)
+MayBeCalled b t v z = (may_call b t (Some (function_in v)) ≡ true) × HasBody b.unit (function_in v) × (v ≡ int (pos (function_in v)))
 
 module _ (b : Setting) (os : List ℕ) (w : World) (sound : IsSound b os w) where
   abbrev T : Table
@@ -367,14 +371,25 @@ module _ (b : Setting) (os : List ℕ) (w : World) (sound : IsSound b os w) wher
   pub accepted : (t : Ty) (v : Worth) → Value b w t v → Answering (Leaving (There t)) (plain_doing b (op.Accepts v) w)
   accepted t v h = leaves-tabled (There t) (accepts v w) (onward (op.Accepts v) t h) (present-there t v h)
 
+  some-same : (f g : ℕ) → Some f ≡ Some g → f ≡ g
+  some-same f g e = cc
+
   found-fits : (t : Ty) (p : Pointer) (U : Table) (o : Option ℕ) (us : List What) (c : Bool) → AllLiveStill T U → may_call b t o ≡ c → ((f : ℕ) → o ≡ Some f → HasBody b.unit f) → Answering (λ v z. (z ≡ with_table w z.memory.table) × AllLiveStill T z.memory.table × MayBeCalled b t v z) (if c then Answers (int (pos (unwrap_or o 0))) (with_table w U) (telling us) else Fails unlike (Some p.prov) (with_table w U) (telling us))
   found-fits t p U o us false l e h = tt
   found-fits t p U None us true l e h = absurd (false≢true e)
-  found-fits t p U (Some f) us true l e h = (refl, l, (e, h f refl))
+  found-fits t p U (Some f) us true l e h = (refl, l, (e, h f refl, refl))
 
   found-by : (t : Ty) (p : Pointer) (got : Result (ℕ × Tried) Stop × Table) → AllLiveStill T got.1 → IfOk got.0 (λ (r : ℕ × Tried). IsCode T r.0) → Answering (λ v z. (z ≡ with_table w z.memory.table) × AllLiveStill T z.memory.table × MayBeCalled b t v z) (found_by w p (may_call b t) got)
-  found-by t p (Ok r, U) l c = found-fits t p U (owner_of w r.0) (event_of_use code_test r.1) (may_call b t (owner_of w r.0)) l refl (λ f e. sound.code r.0 f c e)
+  found-by t p (Ok r, U) l c = found-fits t p U (owner_of w r.0) (event_of_use code_test r.1) (may_call b t (owner_of w r.0)) l refl (λ f e. let g = sound.code r.0 c in subst (λ k. HasBody b.unit k) (some-same g.0 f (sym g.1 ∙ e)) g.2)
   found-by t p (Err y, U) l c = tt
+
+  -- 6.5.2.2p1: what is found is a function
+  found-owned : (got : Result (ℕ × Tried) Stop) → IfOk got (λ (r : ℕ × Tried). IsCode T r.0) → is_of_function w got ≡ true
+  found-owned (Ok r) c = let g = sound.code r.0 c in ap is_some g.1
+  found-owned (Err y) c = refl
+
+  pub callee : (v : Worth) → may_be_pointer v ≡ true → is_callee w v ≡ true
+  callee v h = both (may_be_pointer v) (is_of_function w (code T (pointer_of v)).0) h (found-owned (code T (pointer_of v)).0 (code-found T (pointer_of v)))
 
   pub found : (t : Ty) (v : Worth) → Onward (OfTables (Led ⊥)) w (finds (may_call b t) v w) → Answering (Leaving (MayBeCalled b t)) (finds (may_call b t) v w)
   found t v l =

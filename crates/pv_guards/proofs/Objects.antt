@@ -19,7 +19,7 @@ use Rattle.pv_object.specs.Memory.{Mem}
 use Rattle.pv_object.specs.Creating.{with_new_bytes, without}
 use Rattle.pv_object.proofs.Born.{IsBorn, born}
 use Rattle.pv_typed.specs.Known.{Each}
-use Rattle.pv_typed.specs.TypedUnits.{object_at, literal_at}
+use Rattle.pv_typed.specs.TypedUnits.{layouts, object_at, literal_at}
 use Rattle.pv_world.specs.Worlds.{Worth, World, Bindings, Body}
 use Rattle.pv_world.specs.Objects.{bind, bound_in, bind_in, owning, owner_of, instance_of, base_in, makes_object}
 use Rattle.pv_world.specs.ObjectParts.{owned_next, object_made, filling}
@@ -40,11 +40,16 @@ use Rattle.pv_guards.specs.Fair.{IsFair}
 use Rattle.pv_guards.specs.Typed.{IsIn, IsInScope, IsValueType}
 use Rattle.pv_guards.specs.Soundness.{Value, IsHomeIn, IsHome, IsCode, LiveStill, AllLiveStill, IsSound, IsAfter}
 use Rattle.pv_guards.specs.TypedStatements.{IsMakeable}
+use Rattle.pv_world.specs.Suiting.{is_stored}
+use Rattle.pv_guards.specs.Ruled.{has_instance, has_rule}
 use Rattle.pv_guards.specs.Plain.{plain_doing, act_plainly}
 use Rattle.pv_guards.proofs.Found.{no-name}
 use Rattle.pv_guards.proofs.Fair.{Keeps, store-later, written-fair, plain-fair}
 use Rattle.pv_guards.proofs.Living.{all-same, all-on, place-live, IsNext, next-made, next-home, home-later, none-earlier, new-other, ended-others, ended-code, ended-none, ended-length, code-earlier, not-code}
 use Rattle.pv_guards.proofs.Made.{number-of, number-led, made-led, laid-led, led-changes}
+use Rattle.pv_guards.proofs.Numbers.{both}
+use Rattle.pv_guards.proofs.Ruled.{bound-there}
+use Rattle.pv_guards.proofs.Values.{stored-of}
 use Rattle.pv_guards.proofs.Possible.{makes-same, ends-same, fills-same, puts-same, text-same}
 use Rattle.pv_guards.proofs.Results.{Answering}
 use Rattle.pv_guards.proofs.Triples.{Holds}
@@ -130,11 +135,11 @@ module _ (b : Setting) (os : List ℕ) where
   keeps-any : (v : Worth) (w z : World) → IsAfter w z → Any v w → Any v z
   keeps-any v w z g h = tt
 
-  stores-so : (line : ℕ) (op : Op) → IsAsked b op → (w : World) → ((z : World) (g : IsAfter w z) (s : IsSound b os z) → (does b op z ≡ plain_doing b op z) × Answering (Keeping b os z s Any) (plain_doing b op z)) → Holds (ordered b os) Any w (act b line op) (act_plainly b line op)
+  stores-so : (line : ℕ) (op : Op) → IsAsked b op → (w : World) → ((z : World) (g : IsAfter w z) (s : IsSound b os z) → (has_rule b op z ≡ true) × (does b op z ≡ plain_doing b op z) × Answering (Keeping b os z s Any) (plain_doing b op z)) → Holds (ordered b os) Any w (act b line op) (act_plainly b line op)
   stores-so line op is w h =
       acts-so b os Any keeps-any line op w (λ z g s.
       let p = h z g s in
-      (p.0, leaves-keeping b os z s Any (plain_doing b op z) (subst (λ d. Onward (OfTables (Led ⊥)) z d) p.0 (does-on b (led-changes b) op is z)) p.1))
+      (p.0, p.1, leaves-keeping b os z s Any (plain_doing b op z) (subst (λ d. Onward (OfTables (Led ⊥)) z d) p.1 (does-on b (led-changes b) op is z)) p.2))
 
   module _ (line o : ℕ) (w : World) (scope : IsInScope b.unit os o) (small : size_of b (object_at b.unit o).t ≤ 2 ^ 32) where
     pub fills-holds : (v : Option ℕ) → ((n : ℕ) → v ≡ Some n → n < 256) → Holds (ordered b os) Any w (act b line (Fills o v)) (act_plainly b line (Fills o v))
@@ -142,6 +147,7 @@ module _ (b : Setting) (os : List ℕ) where
         stores-so line (Fills o v) tt w (λ z g s.
         let T = z.memory.table in
         let n = size_of b (object_at b.unit o).t in (
+          bound-there b o z (size_of b (object_at b.unit o).t) (s.objects o scope),
           fills-same b z o (s.objects o scope) v small,
           (refl, refl, refl, refl, refl, all-same T, written-fair T z.memory.bytes (base_in z (instance_of z o (object_at b.unit o).lasting)) (replicate n (filling v)) s.bytes (all-fair-of T n (filling v) (filling-fair-of T v h)), tt),
         ))
@@ -153,6 +159,7 @@ module _ (b : Setting) (os : List ℕ) where
         let T = z.memory.table in
         let l = lvalue b t in
         let f = h z g in (
+          both (has_instance b o z) (is_stored l.shape l.size v) (bound-there b o z (size_of b (object_at b.unit o).t) (s.objects o scope)) (stored-of (layouts b.unit) t v valued f.0 there),
           puts-same b z o (s.objects o scope) offset t v small lies valued f there,
           (refl, refl, refl, refl, refl, all-same T, written-fair T z.memory.bytes (base_in z (instance_of z o (object_at b.unit o).lasting) + offset) (stored_as l.number l.shape v) s.bytes (stored-fair T l.number l.shape v f.1), tt),
         ))
@@ -162,6 +169,7 @@ module _ (b : Setting) (os : List ℕ) where
     text-holds offset size l lies h =
         stores-so line (PutsText o offset size l) tt w (λ z g s.
         let T = z.memory.table in (
+          bound-there b o z (size_of b (object_at b.unit o).t) (s.objects o scope),
           text-same b z o (s.objects o scope) offset size l small lies,
           (refl, refl, refl, refl, refl, all-same T, written-fair T z.memory.bytes (base_in z (instance_of z o (object_at b.unit o).lasting) + offset) (number_bytes None 0 (text_for b size l)) s.bytes (plain-fair T None 0 (text_for b size l) (take-small size (literal_at b.unit l).bytes h)), tt),
         ))
@@ -356,9 +364,10 @@ module _ (b : Setting) (os : List ℕ) (rest : List Body) (w : World) where
             apart = apart-now i y refl refl U a new home;
             literals = λ q g. number-led z.memory.table U l _ (h.sound.literals q g);
             functions = λ q g. number-led z.memory.table U l _ (h.sound.functions q g);
-            code = λ j f c g.
+            code = λ j c.
                 let d : j ≢ i = λ s. not-code U i n.inst n.is (ap is_function n.kind ∙ stored) (subst (λ k. IsCode U k) s c) in
-                h.sound.code j f (code-earlier z.memory.table U a j c) (sym (owner-other z M i (Some o) (length z.memory.table.instances) n.number h.sound.owned j d) ∙ g);
+                let g = h.sound.code j (code-earlier z.memory.table U a j c) in
+                (g.0, owner-other z M i (Some o) (length z.memory.table.instances) n.number h.sound.owned j d ∙ g.1, g.2);
             owned = let more = owners-more z M i (Some o) (length z.memory.table.instances) n.number h.sound.owned in let long = n.longer in omega (arith, more, long);
           };
           body = (with_bound h.body.0 o i, ap (λ ms. bind_in ms o i) h.body.1);
@@ -376,7 +385,7 @@ module _ (b : Setting) (os : List ℕ) (rest : List Body) (w : World) where
 
   pub makes-sure : (line o : ℕ) (s : State) → IsMakeable b.unit false o → Within b os rest w s.world → Sure (λ v z. Within b (o ∷ os) rest w z) (act b line (Makes o) s) (act_plainly b line (Makes o) s)
   makes-sure line o s m h =
-      does-sure b (λ v z. Within b (o ∷ os) rest w z) (within-sided b (o ∷ os) rest w) line (Makes o) s (makes-same b s.world o false m) (object-begins s.world h o m.storage)
+      does-sure b (λ v z. Within b (o ∷ os) rest w z) (within-sided b (o ∷ os) rest w) line (Makes o) s refl (makes-same b s.world o false m) (object-begins s.world h o m.storage)
 
   -- 6.2.4p2, p6: an automatic object ends; all others live on
   module _ (z : World) (d : ℕ) (automatic : (object_at b.unit d).lasting ≡ false) (other : IsIn d os → ⊥) (h : Within b (d ∷ os) rest w z) where
@@ -426,7 +435,7 @@ module _ (b : Setting) (os : List ℕ) (rest : List Body) (w : World) where
               apart = λ o q g k e. h.sound.apart o q (wider o g) (wider q k) e;
               literals = λ q g. number-led T U l _ (h.sound.literals q g);
               functions = λ q g. number-led T U l _ (h.sound.functions q g);
-              code = λ j f c e. h.sound.code j f (ended-code T number j c) e;
+              code = λ j c. h.sound.code j (ended-code T number j c);
               owned = let more = ended-length T number in let few = h.sound.owned in omega (arith, more, few);
             };
             body = h.body;
@@ -438,7 +447,7 @@ module _ (b : Setting) (os : List ℕ) (rest : List Body) (w : World) where
   pub ends-sure : (line d : ℕ) (s : State) → IsMakeable b.unit false d → (IsIn d os → ⊥) → Within b (d ∷ os) rest w s.world
       → Sure (λ v z. Within b os rest w z × Keeps s.world.memory.table z.memory.table) (act b line (Ends d) s) (act_plainly b line (Ends d) s)
   ends-sure line d s m other h =
-      does-sure b (λ v z. Within b os rest w z × Keeps s.world.memory.table z.memory.table) closed line (Ends d) s
+      does-sure b (λ v z. Within b os rest w z × Keeps s.world.memory.table z.memory.table) closed line (Ends d) s (bound-there b d s.world (size_of b (object_at b.unit d).t) (h.sound.objects d (in-scope b (d ∷ os) d m.storage (inl refl))))
       (ends-same b s.world d (h.sound.objects d (in-scope b (d ∷ os) d m.storage (inl refl)))) (object-ends s.world d m.storage other h)
     where
       closed : (v : Worth) (z : World) (k : ℕ) (high : Bool) → Within b os rest w z × Keeps s.world.memory.table z.memory.table → Within b os rest w (with_side z k high) × Keeps s.world.memory.table (with_side z k high).memory.table

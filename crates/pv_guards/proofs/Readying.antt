@@ -1,5 +1,5 @@
 -- Before the first turn: static objects, literals, functions and initializers, with the guards and without, and so whole runs (C17 5.1.2).
-use Rattle.std.proofs.Common.{◌≡◌, ◌≢◌, ℕ, ◌+◌, ◌<◌, ◌≤◌, ◌^◌, ◌%◌, Bool, true, false, cond, eqb, List, [], ◌∷◌, ◌++◌, length, replicate, Option, Some, None, Result, Ok, Err, refl, sym, ap, ◌∙◌, subst, arith, ◌⊎◌, inl, inr}
+use Rattle.std.proofs.Common.{◌≡◌, ◌≢◌, ℕ, suc, ◌+◌, ◌<◌, ◌≤◌, ◌^◌, ◌%◌, Bool, true, false, cond, eqb, List, [], ◌∷◌, ◌++◌, length, replicate, Option, Some, None, Result, Ok, Err, refl, sym, ap, ◌∙◌, subst, arith, ◌⊎◌, inl, inr}
 use Rattle.std.specs.Prelude.{if◌then◌else◌}
 use Rattle.std.specs.FinMap as map
 use Rattle.std.specs.FinMap.{get-empty}
@@ -25,13 +25,14 @@ use Rattle.pv_typed.specs.declared.values.Const.{Const}
 use Rattle.pv_typed.specs.declared.values.Const.TheVariants as const
 use Rattle.pv_typed.specs.Known.{Each}
 use Rattle.pv_typed.specs.Mains.{main_of}
+use Rattle.pv_typed.specs.Tables.{Stored, whole_unit}
 use Rattle.pv_typed.specs.TypedUnits.{Store, StoredValue, ValueOf, TextOf, layouts, object_at, function_at, literal_at}
-use Rattle.pv_world.specs.Worlds.{Worth, World}
+use Rattle.pv_world.specs.Worlds.{Worth, Nothing, Missing, Scalar, Whole, World}
 use Rattle.pv_world.specs.Worths.{int, pointer, null_pointer}
 use Rattle.pv_world.specs.Accesses.{stored_as}
 use Rattle.pv_world.specs.Objects.{put_at, instance_of, literal_of, function_of, base_in, makes_object, owner_of, owning, function_request}
 use Rattle.pv_world.specs.ObjectParts.{filling, object_made, literal_made, literal_request, function_made}
-use Rattle.pv_eval.specs.States.{Setting, State, Res, Gives}
+use Rattle.pv_eval.specs.States.{Setting, State, Res, Gives, Stops, Unreached}
 use Rattle.pv_eval.specs.Acting.{with_side}
 use Rattle.pv_eval.specs.ActingParts.{one_kept, keeps_both}
 use Rattle.pv_eval.specs.TypeForms.{lvalue, size_of}
@@ -41,7 +42,8 @@ use Rattle.pv_eval.specs.Operations.{Makes, MakesLiteral, MakesFunction, Fills, 
 use Rattle.pv_exec.specs.Laying.{IsLaidOut}
 use Rattle.pv_exec.specs.OfRuns.{below, make_static, store_constant, store_static, prepare, call_main}
 use Rattle.pv_exec.specs.Lists.{make_statics, make_literals, make_functions, store_statics, initialize_statics}
-use Rattle.pv_exec.specs.Run.{run_of_by, initial_state, run_of}
+use Rattle.pv_exec.specs.Run.{run_of_by, initial_state, run_of, setting_of}
+use Rattle.pv_exec.proofs.Reaching.{EndFits, run-fits}
 use Rattle.pv_exec.proofs.Memory.Rows.{Leads as Led}
 use Rattle.pv_exec.proofs.Memory.Tables.{place-leads}
 use Rattle.pv_exec.proofs.Memory.Runs.{first-sound}
@@ -49,6 +51,7 @@ use Rattle.pv_guards.proofs.Laid.{sound-laid}
 use Rattle.pv_prov.specs.Names.{twin_at}
 use Rattle.pv_num.specs.declared.kinds.IntKind.TheVariants.{Int}
 use Rattle.pv_object.specs.declared.values.Scalar.TheVariants as scalar
+use Rattle.pv_object.specs.declared.values.Value.TheVariants.{Int as IntValue, Unset, Pointer as PointerValue}
 use Rattle.pv_guards.specs.Worths.{IsScalar, IsOfType, IsThere}
 use Rattle.pv_guards.specs.Fair.{IsFair, AreFair}
 use Rattle.pv_guards.specs.Typed.{IsIn, IsValueType, HasBody}
@@ -69,7 +72,14 @@ use Rattle.pv_guards.proofs.Acting.{kept-if}
 use Rattle.pv_guards.proofs.LibraryLeads.{blank-fair}
 use Rattle.pv_guards.proofs.Objects.{placed-number, placed-born, placed-new, owner-other, owner-next, owners-more, bound_number, bound-here, bound-other, inserted, all-fair-of, filling-fair-of, take-small}
 use Rattle.pv_guards.proofs.Sure.{Lands, Sure, sure-seq, sure-more, does-sure}
-use Rattle.pv_guards.proofs.Statements.{to-bare, moved-in}
+use Rattle.pv_world.specs.Suiting.{is_stored}
+use Rattle.pv_guards.specs.Ruled.{has_instance}
+use Rattle.pv_guards.proofs.Numbers.{both}
+use Rattle.pv_guards.proofs.Ruled.{bound-there}
+use Rattle.pv_guards.proofs.Values.{stored-of, to-bare}
+use Rattle.pv_guards.proofs.Statements.{moved-in}
+use Rattle.pv_guards.specs.Laws.{IsStatus}
+use Rattle.pv_guards.proofs.Mains.{main-has-name}
 use Rattle.pv_guards.proofs.Bodies.{call-sure, levels}
 
 -- 6.2.4p3: the instance of an object with static storage
@@ -85,7 +95,7 @@ pub record Ready (b : Setting) (ss ls fs : List ℕ) (w : World) : Type 0 where
   pub apart : (o q : ℕ) → IsIn o ss → IsIn q ss → static_of w o ≡ static_of w q → o ≡ q
   pub literals : (l : ℕ) → IsIn l ls → IsNumber w.memory.table.instances (literal_of w l)
   pub functions : (f : ℕ) → IsIn f fs → IsNumber w.memory.table.instances (function_of w f)
-  pub code : (i f : ℕ) → IsCode w.memory.table i → owner_of w i ≡ Some f → HasBody b.unit f
+  pub code : (i : ℕ) → IsCode w.memory.table i → (f : ℕ) × (owner_of w i ≡ Some f) × HasBody b.unit f
   pub owned : length w.owners ≤ length w.memory.table.instances
 
 module _ (b : Setting) (ss ls fs : List ℕ) where
@@ -98,7 +108,7 @@ module _ (b : Setting) (ss ls fs : List ℕ) where
     apart = h.apart;
     literals = λ o g. number-led w.memory.table U l _ (h.literals o g);
     functions = λ o g. number-led w.memory.table U l _ (h.functions o g);
-    code = λ i f c e. h.code i f (code-earlier w.memory.table U a i c) e;
+    code = λ i c. h.code i (code-earlier w.memory.table U a i c);
     owned = let more = longer-live w.memory.table U a in let few = h.owned in omega (arith, more, few);
   }
 
@@ -142,35 +152,45 @@ module _ (b : Setting) (ss ls fs : List ℕ) where
     fills-ready : (v : Option ℕ) → ((n : ℕ) → v ≡ Some n → n < 256) → Sure StillReady (act b line (Fills o v) s) (act_plainly b line (Fills o v) s)
     fills-ready v f =
         let n = size_of b (object_at b.unit o).t in
-        does-sure b StillReady ready-sided line (Fills o v) s (fills-same b w o home v m.small) (ready-bytes w base (replicate n (filling v)) (all-fair-of T n (filling v) (filling-fair-of T v f)) h)
+        does-sure b StillReady ready-sided line (Fills o v) s (bound-there b o w n home) (fills-same b w o home v m.small) (ready-bytes w base (replicate n (filling v)) (all-fair-of T n (filling v) (filling-fair-of T v f)) h)
 
     puts-ready : (offset : ℕ) (t : Ty) (v : Worth) → offset + size_of b t ≤ size_of b (object_at b.unit o).t → IsValueType (bare_type t) → Value b w (bare_type t) v → IsThere v
         → Sure StillReady (act b line (Puts o offset (lvalue b t) v) s) (act_plainly b line (Puts o offset (lvalue b t) v) s)
     puts-ready offset t v lies valued f there =
         let l = lvalue b t in
-        does-sure b StillReady ready-sided line (Puts o offset l v) s (puts-same b w o home offset t v m.small lies valued f there)
+        does-sure b StillReady ready-sided line (Puts o offset l v) s (both (has_instance b o w) (is_stored l.shape l.size v) (bound-there b o w (size_of b (object_at b.unit o).t) home) (stored-of (layouts b.unit) t v valued f.0 there)) (puts-same b w o home offset t v m.small lies valued f there)
         (ready-bytes w (base + offset) (stored_as l.number l.shape v) (stored-fair T l.number l.shape v f.1) h)
 
     text-ready : (offset size l : ℕ) → offset + size ≤ size_of b (object_at b.unit o).t → Each (λ (v : ℕ). v < 256) (literal_at b.unit l).bytes
         → Sure StillReady (act b line (PutsText o offset size l) s) (act_plainly b line (PutsText o offset size l) s)
     text-ready offset size l lies f =
-        does-sure b StillReady ready-sided line (PutsText o offset size l) s (text-same b w o home offset size l m.small lies)
+        does-sure b StillReady ready-sided line (PutsText o offset size l) s (bound-there b o w (size_of b (object_at b.unit o).t) home) (text-same b w o home offset size l m.small lies)
         (ready-bytes w (base + offset) (plain_bytes None 0 (text_for b size l)) (plain-fair T None 0 (text_for b size l) (take-small size (literal_at b.unit l).bytes f)) h)
 
--- 5.1.2.2.3p1: where there is a `main`, what it gives is an `int`
+-- 5.1.2.2.3p1: where there is a `main`, what it gives is an `int`, which is there
 abbrev pub IsGiven : Option ℕ → Worth → Type 0
 IsGiven None v = Unit {0}
-IsGiven (Some f) v = IsScalar (scalar.Int Int) v
+IsGiven (Some f) v = IsScalar (scalar.Int Int) v × IsThere v
+
+-- 5.1.2.2.3p1: so it is a status
+a-status : (v : Worth) → IsScalar (scalar.Int Int) v → IsThere v → IsStatus v
+a-status (Scalar (IntValue n)) h there = (n, refl, h)
+a-status (Scalar Unset) h there = absurd cc
+a-status (Scalar (PointerValue p)) h there = absurd h
+a-status Missing h there = absurd there
+a-status Nothing h there = absurd h
+a-status (Whole bs a) h there = absurd h
 
 -- instances that are made
 module _ (b : Setting) (unit : IsTypedUnit b.unit) where
   module _ (ss ls fs : List ℕ) where
     -- what is made is no function: those that are there are owned as before
     others-kept : (w : World) (r : Request) (i : ℕ) (U : Table) (M : Mem) (o : Option ℕ) → AllLiveStill w.memory.table U → IsNext w.memory.table r i U → is_function r.kind ≡ false → Ready b ss ls fs w
-        → (j f : ℕ) → IsCode U j → owner_of (owning w M i o) j ≡ Some f → HasBody b.unit f
-    others-kept w r i U M o a n stored h j f c e =
+        → (j : ℕ) → IsCode U j → (f : ℕ) × (owner_of (owning w M i o) j ≡ Some f) × HasBody b.unit f
+    others-kept w r i U M o a n stored h j c =
         let d : j ≢ i = λ s. not-code U i n.inst n.is (ap is_function n.kind ∙ stored) (subst (λ k. IsCode U k) s c) in
-        h.code j f (code-earlier w.memory.table U a j c) (sym (owner-other w M i o (length w.memory.table.instances) n.number h.owned j d) ∙ e)
+        let g = h.code j (code-earlier w.memory.table U a j c) in
+        (g.0, owner-other w M i o (length w.memory.table.instances) n.number h.owned j d ∙ g.1, g.2)
 
     -- 6.2.4p3: a static object begins, in an instance of its own
     module _ (o : ℕ) (w : World) (h : Ready b ss ls fs w) (i : ℕ) (U : Table) (lives : AllLiveStill w.memory.table U) (new : instance_at w.memory.table.instances i ≡ None) (home : IsHome U i (size_of b (object_at b.unit o).t)) where
@@ -235,7 +255,7 @@ module _ (b : Setting) (unit : IsTypedUnit b.unit) where
         let w = s.world in
         let T = w.memory.table in
         let r = request_of b x in
-        does-sure b (λ v z. Ready b (o ∷ ss) ls fs z) (ready-sided b (o ∷ ss) ls fs) line (Makes o) s (makes-same b w o true m)
+        does-sure b (λ v z. Ready b (o ∷ ss) ls fs z) (ready-sided b (o ∷ ss) ls fs) line (Makes o) s refl (makes-same b w o true m)
         (subst (λ c. Answering (λ v z. Ready b (o ∷ ss) ls fs z) (makes_object o c r w)) (sym m.storage)
         (static-made o r.name r w (place T r) refl (place-leads T r (λ y. absurd y)) (place-live T r refl) refl refl refl (next-made T r) h))
 
@@ -266,7 +286,7 @@ module _ (b : Setting) (unit : IsTypedUnit b.unit) where
         let w = s.world in
         let T = w.memory.table in
         let r = literal_request (text_of b.unit.names 0) bytes in
-        does-sure b (λ v z. Ready b ss (l ∷ ls) fs z) (ready-sided b ss (l ∷ ls) fs) line (MakesLiteral l) s (literal-same b w l m)
+        does-sure b (λ v z. Ready b ss (l ∷ ls) fs z) (ready-sided b ss (l ∷ ls) fs) line (MakesLiteral l) s refl (literal-same b w l m)
         (literal-made l bytes r w (place T r) refl (place-leads T r (λ y. absurd y)) (place-live T r refl) refl (next-made T r) (unit.characters l) h)
 
     -- 6.3.2.1p4: a function gets an instance; all others are as they were
@@ -277,15 +297,14 @@ module _ (b : Setting) (unit : IsTypedUnit b.unit) where
           let home = h.statics q g in
           subst (λ x. IsHomeIn x n) (sym (new.others (static_of w q) (new-other w.memory.table i (static_of w q) n new.was home))) home
 
-      code-placed : (M : Mem) (f : ℕ) → i ≡ length w.memory.table.instances + 1 → HasBody b.unit f → (j g : ℕ) → IsCode U j → owner_of (owning w M i (Some f)) j ≡ Some g → HasBody b.unit g
-      code-placed M f number body j g c e = by (same_or_not j i)
+      code-placed : (M : Mem) (f : ℕ) → i ≡ length w.memory.table.instances + 1 → HasBody b.unit f → (j : ℕ) → IsCode U j → (g : ℕ) × (owner_of (owning w M i (Some f)) j ≡ Some g) × HasBody b.unit g
+      code-placed M f number body j c = by (same_or_not j i)
         where
-          same-function : Some f ≡ Some g → f ≡ g
-          same-function e = cc
-
-          by : (j ≡ i) ⊎ (j ≢ i) → HasBody b.unit g
-          by (inl s) = subst (λ k. HasBody b.unit k) (same-function (sym (owner-next w M i (Some f) (length w.memory.table.instances) number h.owned) ∙ ap (owner_of (owning w M i (Some f))) (sym s) ∙ e)) body
-          by (inr d) = h.code j g (subst IsCodeIn (new.others j d) c) (sym (owner-other w M i (Some f) (length w.memory.table.instances) number h.owned j d) ∙ e)
+          by : (j ≡ i) ⊎ (j ≢ i) → (g : ℕ) × (owner_of (owning w M i (Some f)) j ≡ Some g) × HasBody b.unit g
+          by (inl s) = (f, ap (owner_of (owning w M i (Some f))) s ∙ owner-next w M i (Some f) (length w.memory.table.instances) number h.owned, body)
+          by (inr d) =
+              let g = h.code j (subst IsCodeIn (new.others j d) c) in
+              (g.0, owner-other w M i (Some f) (length w.memory.table.instances) number h.owned j d ∙ g.1, g.2)
 
     function-placed : (f name : ℕ) (r : Request) (w : World) (got : Result ℕ CreateError × Table) → HasBody b.unit f → place w.memory.table r ≡ got → Led ⊥ w.memory.table got.1 → ((i : ℕ) → got.0 ≡ Ok i → IsNext w.memory.table r i got.1) → Ready b ss ls fs w → Answering (λ v z. Ready b ss ls (f ∷ fs) z) (function_made w f name (with_new_bytes w.memory got))
     function-placed f name r w (Ok i, U) body e k next h =
@@ -315,7 +334,7 @@ module _ (b : Setting) (unit : IsTypedUnit b.unit) where
         let w = s.world in
         let T = w.memory.table in
         let r = function_request x.name (text_of b.unit.names x.name) in
-        does-sure b (λ v z. Ready b ss ls (f ∷ fs) z) (ready-sided b ss ls (f ∷ fs)) line (MakesFunction f) s (function-same b w f m.0)
+        does-sure b (λ v z. Ready b ss ls (f ∷ fs) z) (ready-sided b ss ls (f ∷ fs)) line (MakesFunction f) s refl (function-same b w f m.0)
         (function-placed f r.name r w (place T r) m.1 refl (place-leads T r (λ y. absurd y)) (next-made T r) h)
 
   some-zero : (n : ℕ) → Some 0 ≡ Some n → n < 256
@@ -466,7 +485,7 @@ module _ (b : Setting) (unit : IsTypedUnit b.unit) where
       let x = function_at b.unit f in
       let r = m.2.0 in
       let p = call-sure b unit (below b b.bound) (parts.below b b.bound) (levels b unit b.bound) [] x r NoTys (unit.functions f r NoTys m.0 m.2.1) m.2.1 m.1 [] x.line s tt (ready-sound s.world h) in
-      sure-more _ (λ v z. IsGiven (Some f) v) (call_main b (Some f) s) (parts.call_main b (Some f) s) (λ v z q. subst (λ t. IsOfType (layouts b.unit) t v) m.2.2 (to-bare (layouts b.unit) r v q.0.0)) p
+      sure-more _ (λ v z. IsGiven (Some f) v) (call_main b (Some f) s) (parts.call_main b (Some f) s) (λ v z q. (subst (λ t. IsOfType (layouts b.unit) t v) m.2.2 (to-bare (layouts b.unit) r v q.0.0), q.3 (main-has-name b.unit.names b.unit.functions f e))) p
 
   no-code-yet : (i : ℕ) → IsCodeIn (instance_at [] i) → ⊥
   no-code-yet i h = by (eqb i 0) h
@@ -483,7 +502,7 @@ module _ (b : Setting) (unit : IsTypedUnit b.unit) where
     apart = λ o q g k e. absurd g;
     literals = λ o g. absurd g;
     functions = λ o g. absurd g;
-    code = λ i f c e. absurd (no-code-yet i c);
+    code = λ i c. absurd (no-code-yet i c);
     owned = omega arith;
   }
 
@@ -496,5 +515,11 @@ module _ (b : Setting) (unit : IsTypedUnit b.unit) where
   run-same script = (run-sure script).0
 
   -- 5.1.2.2.3p1: what `main` gives
-  pub run-gives : (script : List ScriptLine) (f : ℕ) → main_of b.unit ≡ Some f → (v : Worth) (s : State) → run_of b script ≡ Gives v s → IsScalar (scalar.Int Int) v
-  run-gives script f e v s g = subst (λ o. IsGiven o v) e (subst (λ (r : Res Worth). Lands (λ v z. IsGiven (main_of b.unit) v) r) g (run-sure script).1)
+  pub run-gives : (script : List ScriptLine) (f : ℕ) → main_of b.unit ≡ Some f → (v : Worth) (s : State) → run_of b script ≡ Gives v s → IsStatus v
+  run-gives script f e v s g =
+      let h : IsGiven (Some f) v = subst (λ o. IsGiven o v) e (subst (λ (r : Res Worth). Lands (λ v z. IsGiven (main_of b.unit) v) r) g (run-sure script).1) in
+      a-status v h.0 h.1
+
+-- no run of the rules comes to what C has no rule for
+pub run-never : (u : Stored) → IsTypedUnit (whole_unit u) → (sides : Option (List Bool)) (zap : Bool) (script : List ScriptLine) (n : ℕ) (s : State) → plain.run_of (setting_of u n sides zap) script ≢ Stops Unreached s
+run-never u unit sides zap script n s e = (subst (λ (r : Res Worth). EndFits n (suc n) r) (run-same (setting_of u n sides zap) unit script ∙ e) (run-fits u n sides zap script)).1

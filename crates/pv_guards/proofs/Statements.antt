@@ -27,7 +27,7 @@ use Rattle.pv_exec.specs.LabelParts.{some_case, some_default}
 use Rattle.pv_exec.specs.Switches.{some_target}
 use Rattle.pv_exec.specs.Execution.{ex_by}
 use Rattle.pv_guards.specs.Worths.{IsOfType, IsThere}
-use Rattle.pv_guards.specs.Typed.{IsTyped, HasType, IsValueType, IsIn, given_type}
+use Rattle.pv_guards.specs.Typed.{IsTyped, HasType, IsValueType, IsScalarType, IsIn, given_type}
 use Rattle.pv_guards.specs.Soundness.{Value, IsSound, IsAfter}
 use Rattle.pv_guards.specs.Plain.{act_plainly}
 use Rattle.pv_guards.specs.PlainRun as plain
@@ -43,28 +43,8 @@ use Rattle.pv_guards.proofs.Acting as acting
 use Rattle.pv_guards.proofs.Expressions.{converted-way}
 use Rattle.pv_guards.proofs.Concluding.{asked, typed}
 use Rattle.pv_guards.proofs.Sure.{Sure, sure-seq, sure-more, sure-if, sure-tick, lands-more, after-lands, holds-sure}
+use Rattle.pv_guards.proofs.Values.{from-bare}
 use Rattle.pv_guards.proofs.Objects.{Within, later-after, sound-less, own-after, in-scope, fills-holds, puts-holds, text-holds, makes-sure, ends-sure}
-
--- values of types, qualifiers aside
-pub from-bare : (env : List Entry) (t : Ty) (v : Worth) → IsOfType env (bare_type t) v → IsOfType env t v
-from-bare env (ConstOf t) v h = from-bare env t v h
-from-bare env VoidTy v h = h
-from-bare env (IntTy k) v h = h
-from-bare env (PointerTo t) v h = h
-from-bare env (ArrayOf t n) v h = h
-from-bare env (StructTag n) v h = h
-from-bare env (UnionTag n) v h = h
-from-bare env (FunctionTy t ts c) v h = h
-
-pub to-bare : (env : List Entry) (t : Ty) (v : Worth) → IsOfType env t v → IsOfType env (bare_type t) v
-to-bare env (ConstOf t) v h = to-bare env t v h
-to-bare env VoidTy v h = h
-to-bare env (IntTy k) v h = h
-to-bare env (PointerTo t) v h = h
-to-bare env (ArrayOf t n) v h = h
-to-bare env (StructTag n) v h = h
-to-bare env (UnionTag n) v h = h
-to-bare env (FunctionTy t ts c) v h = h
 
 pub none-nothing : (env : List Entry) (r : Ty) → is_none r ≡ true → IsOfType env r Nothing
 none-nothing env VoidTy e = tt
@@ -97,15 +77,15 @@ before-in (d ∷ ds) n (inl e) = inl e
 before-in (d ∷ ds) n (inr h) = inr (before-in ds n h)
 before-in [] n h = absurd h
 
--- 6.8p2, 6.8.6.4p3: a value that is returned is one of the function's result
+-- 6.8p2, 6.8.6.4p3: a value that is returned is one of the function's result, and there
 abbrev pub FlowOf : Setting → Ty → Flow → World → Type 0
-FlowOf b r (Returns v) z = Value b z r v
+FlowOf b r (Returns v) z = Value b z r v × IsThere v
 FlowOf b r Falls z = Unit {0}
 FlowOf b r Breaks z = Unit {0}
 FlowOf b r Continues z = Unit {0}
 
 pub flow-later : (b : Setting) (r : Ty) (fl : Flow) (w z : World) → Keeps w.memory.table z.memory.table → FlowOf b r fl w → FlowOf b r fl z
-flow-later b r (Returns v) w z k h = (h.0, value-later w.memory.table z.memory.table k v h.1)
+flow-later b r (Returns v) w z k h = ((h.0.0, value-later w.memory.table z.memory.table k v h.0.1), h.1)
 flow-later b r Falls w z k h = tt
 flow-later b r Breaks w z k h = tt
 flow-later b r Continues w z k h = tt
@@ -253,7 +233,7 @@ module _ (b : Setting) (rest : List Body) (w0 : World) where
     testing-sure : (os : List ℕ) (x : TypedTree) → IsCondition b.unit os x → (s : State) → Inv os s.world → Sure (λ v z. Inv os z) (testing b u.call x s) (parts.testing b u'.call x s)
     testing-sure os x h s i =
         sure-seq (Kept os s.world (λ v z. Value b z (given_type x) v)) (λ v z. Inv os z) (full_expression b u.call x s) (parts.full_expression b u'.call x s) _ _ (full-sure os x h.0 s i) (λ v t k.
-        sure-more (Kept os t.world (λ v z. Value b z (IntTy Int) v)) (λ v z. Inv os z) (act b (line_of x) (Tests v) t) (act_plainly b (line_of x) (Tests v) t) (λ v z q. q.1) (act-sure os (line_of x) (Tests v) (IntTy Int) t k.1 (given_type x, k.2, refl)))
+        sure-more (Kept os t.world (λ v z. Value b z (IntTy Int) v)) (λ v z. Inv os z) (act b (line_of x) (Tests v) t) (act_plainly b (line_of x) (Tests v) t) (λ v z q. q.1) (act-sure os (line_of x) (Tests v) (IntTy Int) t k.1 (given_type x, k.2, refl, subst IsScalarType (sym h.1.1) h.2)))
 
     stepped-sure : (r : Ty) (os : List ℕ) (x : Option TypedTree) (m m' : State → Res Flow) → MayBeTyped b.unit os x → ((s : State) → Inv os s.world → Sure (E r os) (m s) (m' s)) → (s : State) → Inv os s.world → Sure (E r os) (then_step b u.call x m s) (parts.then_step b u'.call x m' s)
     stepped-sure r os None m m' h g s i = g s i
@@ -321,12 +301,12 @@ module _ (b : Setting) (rest : List Body) (w0 : World) where
         sure-seq (λ v z. Inv os z) (λ fl z. Inv os z) (store_all b u.call o x.inits t) (lists.store_all b u'.call o x.inits t) _ _ (stores-sure os o x.inits among m h t k) (λ v y q. (refl, q)))
 
     returns-sure : (r : Ty) (os : List ℕ) (x : Option TypedTree) (line : ℕ) → IsReturned b.unit r os x → (s : State) → Inv os s.world → Sure (E r os) (returns_value b u.call x line s) (parts.returns_value b u'.call x line s)
-    returns-sure r os None line h s i = (refl, (i, (none-nothing (layouts b.unit) r h, tt)))
+    returns-sure r os None line h s i = (refl, (i, ((none-nothing (layouts b.unit) r h, tt), tt)))
     returns-sure r os (Some x) line h s i =
         sure-seq (Kept os s.world (λ v z. Value b z (given_type x) v)) (E r os) (full_expression b u.call x s) (parts.full_expression b u'.call x s) _ _ (full-sure os x h.1 s i) (λ v t k.
         sure-seq (Kept os t.world (λ v z. Value b z (bare_type h.0) v)) (E r os) (with_conversion b x v t) (parts.with_conversion b x v t) _ _ (converted-sure os x (bare_type h.0) v t h.1 h.2 k.2 k.1) (λ v y q.
         sure-seq (Kept os y.world (λ v z. Value b z (bare_type h.0) v × IsThere v)) (E r os) (act b line (Accepts v) y) (act_plainly b line (Accepts v) y) _ _ (accept-sure os line (bare_type h.0) v y q.2 q.1) (λ v x p.
-        (refl, (p.1, ((h.3 (layouts b.unit) v).0 (from-bare (layouts b.unit) h.0 v p.2.0.0), p.2.0.1))))))
+        (refl, (p.1, (((h.3 (layouts b.unit) v).0 (from-bare (layouts b.unit) h.0 v p.2.0.0), p.2.0.1), p.2.1))))))
 
     mutual
       unfolding ex_by

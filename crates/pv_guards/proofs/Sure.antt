@@ -1,5 +1,5 @@
 -- Two pieces of a run that are the same from a state on, and what holds where they give something (C17 5.1.2.3).
-use Rattle.std.proofs.Common.{◌≡◌, ℕ, Bool, true, false, List, Option, Some, None, refl, sym, ap, subst}
+use Rattle.std.proofs.Common.{◌≡◌, ℕ, Bool, true, false, List, Option, Some, None, refl, sym, subst}
 use Rattle.std.specs.Prelude.{nat_lt, if◌then◌else◌, slice_get}
 use Rattle.pv_world.specs.Worlds.{Worth, World}
 use Rattle.pv_world.specs.Telling.{Told}
@@ -8,7 +8,9 @@ use Rattle.pv_eval.specs.States.{Setting, State, Res, Gives, Stops, Turns, then_
 use Rattle.pv_eval.specs.Acting.{after_doing, answer_with_sides, by_side, with_side, pair_count, after_telling}
 use Rattle.pv_eval.specs.Operations.{Op, does, act}
 use Rattle.pv_guards.specs.Soundness.{IsSound, IsAfter}
+use Rattle.pv_guards.specs.Ruled.{has_rule}
 use Rattle.pv_guards.specs.Plain.{plain_doing, act_plainly}
+use Rattle.pv_guards.proofs.Ruled.{acts-plainly}
 use Rattle.pv_guards.proofs.Results.{Answering}
 use Rattle.pv_guards.proofs.Triples.{Holds, After}
 use Rattle.pv_guards.proofs.Leaving.{ordered, after-itself}
@@ -73,6 +75,6 @@ module _ (b : Setting) (R : Worth → World → Type 0) (closed : (v : Worth) (z
   acted-lands line (Fails y p z told) s h = tt
   acted-lands line (Breaks y p z told) s h = tt
 
-  -- an operation that does what its rule says
-  pub does-sure : (line : ℕ) (o : Op) (s : State) → does b o s.world ≡ plain_doing b o s.world → Answering R (plain_doing b o s.world) → Sure R (act b line o s) (act_plainly b line o s)
-  does-sure line o s e h = (ap (λ d. after_doing b line d s) e, subst (λ d. Lands R (after_doing b line d s)) (sym e) (acted-lands line (plain_doing b o s.world) s h))
+  -- an operation that has a rule, and does what that says
+  pub does-sure : (line : ℕ) (o : Op) (s : State) → has_rule b o s.world ≡ true → does b o s.world ≡ plain_doing b o s.world → Answering R (plain_doing b o s.world) → Sure R (act b line o s) (act_plainly b line o s)
+  does-sure line o s c e h = (acts-plainly b line o s c e, subst (λ d. Lands R (after_doing b line d s)) (sym e) (acted-lands line (plain_doing b o s.world) s h))

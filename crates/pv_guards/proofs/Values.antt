@@ -169,3 +169,24 @@ whole-part n offset size Nothing le h = absurd h
 pub part-of : (env : List Entry) (t : Ty) (offset size : ℕ) (v : Worth) → ((n : ℕ) × (t ≡ StructTag n)) ⊎ ((n : ℕ) × (t ≡ UnionTag n)) → offset + size ≤ (layout_in env t).size → IsOfType env t v → has_part v offset size ≡ true
 part-of env t offset size v (inl (n, e)) le h = whole-part (layout_in env t).size offset size v le (subst (λ u. IsOfType env u v → IsWhole (layout_in env u).size v) (sym e) (λ x. x) h)
 part-of env t offset size v (inr (n, e)) le h = whole-part (layout_in env t).size offset size v le (subst (λ u. IsOfType env u v → IsWhole (layout_in env u).size v) (sym e) (λ x. x) h)
+
+-- 6.5.16.1p2: values of types, qualifiers aside
+pub from-bare : (env : List Entry) (t : Ty) (v : Worth) → IsOfType env (bare_type t) v → IsOfType env t v
+from-bare env (ConstOf t) v h = from-bare env t v h
+from-bare env VoidTy v h = h
+from-bare env (IntTy k) v h = h
+from-bare env (PointerTo t) v h = h
+from-bare env (ArrayOf t n) v h = h
+from-bare env (StructTag n) v h = h
+from-bare env (UnionTag n) v h = h
+from-bare env (FunctionTy t ts c) v h = h
+
+pub to-bare : (env : List Entry) (t : Ty) (v : Worth) → IsOfType env t v → IsOfType env (bare_type t) v
+to-bare env (ConstOf t) v h = to-bare env t v h
+to-bare env VoidTy v h = h
+to-bare env (IntTy k) v h = h
+to-bare env (PointerTo t) v h = h
+to-bare env (ArrayOf t n) v h = h
+to-bare env (StructTag n) v h = h
+to-bare env (UnionTag n) v h = h
+to-bare env (FunctionTy t ts c) v h = h

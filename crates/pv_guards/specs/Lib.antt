@@ -2,6 +2,8 @@ pub mod Worths
 pub mod Typed
 pub mod Fair
 pub mod Soundness
+pub mod Ruled
+pub mod Wants
 pub mod Plain
 pub mod PlainLists
 pub mod PlainRun

@@ -66,7 +66,7 @@ pub record IsSound (b : Setting) (os : List ℕ) (w : World) : Type 0 where
   pub literals : (l : ℕ) → IsIn l b.unit.instances → IsNumber w.memory.table.instances (literal_of w l)
   pub functions : (f : ℕ) → IsIn f b.unit.placed → IsNumber w.memory.table.instances (function_of w f)
   -- 6.3.2.1p4, 6.9p5: an instance of a function is that of one that is defined
-  pub code : (i f : ℕ) → IsCode w.memory.table i → owner_of w i ≡ Some f → HasBody b.unit f
+  pub code : (i : ℕ) → IsCode w.memory.table i → (f : ℕ) × (owner_of w i ≡ Some f) × HasBody b.unit f
   -- 6.5p6: what instances were made for is known of no more than there are
   pub owned : length w.owners ≤ length w.memory.table.instances
 

@@ -13,6 +13,7 @@ use Rattle.pv_typed.specs.TypedTree.{TypedTree, Node, Form, Constant, Object, Fu
 use Rattle.pv_typed.specs.TypedUnits.{WholeUnit, layouts, object_at, function_at}
 use Rattle.pv_library.specs.declared.library.Library.{Library}
 use Rattle.pv_library.specs.declared.library.Library.TheVariants as library
+use Rattle.pv_library.specs.LibraryTypes.{prototype}
 use Rattle.pv_world.specs.Worlds.{Worth}
 use Rattle.pv_world.specs.Pointers.{is_order}
 use Rattle.pv_guards.specs.Worths.{IsOfType}
@@ -138,6 +139,11 @@ IsResultOf library.Free t = t ≡ VoidTy
 IsResultOf library.Exit t = t ≡ VoidTy
 IsResultOf library.Abort t = t ≡ VoidTy
 
+-- 7.1.4p2, 6.7.6.3p15: the parameters of a function of the library: each has the values of its counterpart in the prototype
+abbrev pub AreParametersOf : (prototype : Ty) → Tys → (variadic : Bool) → Type 0
+AreParametersOf (FunctionTy r us v) ts variadic = AreAllLike ts us × (variadic ≡ v)
+AreParametersOf _ ts variadic = ⊥
+
 -- a number of a list
 abbrev pub IsIn : ℕ → List ℕ → Type 0
 IsIn n [] = ⊥
@@ -213,7 +219,8 @@ abbrev mutual
   IsTypedForm u os t (CallPointer a xs) =
       (r : Ty) × (ts : Tys) × (variadic : Bool) × IsTyped u os a × HasValue a (PointerTo (FunctionTy r ts variadic)) × AreLike r t
       × ArePassed u os ts variadic xs × (variadic ≡ true → AreFixed u)
-  IsTypedForm u os t (LibraryCall f xs) = (ts : Tys) × (variadic : Bool) × IsResultOf f t × ArePassed u os ts variadic xs
+  -- 7.1.4p1: by the types that the function has
+  IsTypedForm u os t (LibraryCall f xs) = (ts : Tys) × (variadic : Bool) × IsResultOf f t × ArePassed u os ts variadic xs × AreParametersOf (prototype f) ts variadic
 
   -- 6.5.2.2p2, p7: each argument has its parameter's type; further ones are promoted
   pub ArePassed : WholeUnit → (automatic : List ℕ) → Tys → (variadic : Bool) → Arguments → Type 0

@@ -8,6 +8,6 @@
 mod laws;
 
 pub use laws::{
-    operations_do_what_rules_say, typed_expressions_meet_no_guard, typed_units_meet_no_guard,
-    values_are_of_their_types,
+    no_operation_wants_memory, operations_do_what_rules_say, typed_expressions_meet_no_guard,
+    typed_units_meet_no_guard, uses_find_instances, values_are_of_their_types,
 };

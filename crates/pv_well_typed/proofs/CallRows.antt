@@ -84,7 +84,7 @@ module _ (E : Type 0) (v : WholeUnit) (os : List ℕ) where
         where
           by : (b : Bool) → (if b then Some (source_node line t (LibraryCall l (arguments_of xs))) else None) ≡ Some x → IsExpression E v os x
           by true e = as-made (IsExpression E v os) (source_node line t (LibraryCall l (arguments_of xs))) x (record {
-            typed = λ i. (ts, c, h.0, passed-row ts c args all xs p i);
+            typed = λ i. (ts, c, h.0, passed-row ts c args all xs p i, h.3);
             proper = h.2;
             valued = λ n. (refl, h.1);
           }) e

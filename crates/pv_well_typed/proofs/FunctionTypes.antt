@@ -22,14 +22,14 @@ use Rattle.pv_library.specs.LibraryTypes.{prototype}
 use Rattle.pv_unit.specs.MainType.{main_type}
 use Rattle.pv_unit.specs.EntityParts.{agrees}
 use Rattle.pv_unit.specs.Redeclarations.{is_variadic, may_have}
-use Rattle.pv_guards.specs.Typed.{AreLike, AreAllLike, IsSignature, IsResultOf}
+use Rattle.pv_guards.specs.Typed.{AreLike, AreAllLike, AreParametersOf, IsSignature, IsResultOf}
 use Rattle.pv_guards.proofs.Signatures.{like-alike}
 use Rattle.pv_well_typed.specs.Proper.{IsValueOrVoid, IsProper}
 use Rattle.pv_well_typed.specs.ProperStates.{IsFixed, HasFunctionType}
 use Rattle.pv_well_typed.proofs.UnaryRows.{both-true}
 use Rattle.pv_well_typed.proofs.Composites.{composite-plain, proper-composite}
 use Rattle.pv_well_typed.proofs.TagRows.{bits-equal}
-use Rattle.pv_well_typed.proofs.UnitChanges.{Signs, like-then, like-back}
+use Rattle.pv_well_typed.proofs.UnitChanges.{Signs, composite-like, like-then, like-back}
 
 -- ---- types that are compatible (6.2.7p1)
 
@@ -111,6 +111,58 @@ result-of library.Strlen r p m = like-integer r ULong p m
 result-of library.Free r p m = like-void r p m
 result-of library.Exit r p m = like-void r p m
 result-of library.Abort r p m = like-void r p m
+
+-- 6.7.6.3p15: parameters of compatible types have the same values
+all-like : (ts us : Tys) → MatchAll ts us → AreAllLike ts us
+all-like NoTys NoTys e = tt
+all-like NoTys (MoreTys u us) e = absurd cc
+all-like (MoreTys t ts) NoTys e = absurd cc
+all-like (MoreTys t ts) (MoreTys u us) e =
+    let h = both-true _ (all_alike (forms_of ts) (forms_of us)) e in
+    (like-alike _ _ t u h.0, all-like ts us h.1)
+
+prototype-function : (l : Library) → is_function (prototype l) ≡ true
+prototype-function library.Malloc = refl
+prototype-function library.Calloc = refl
+prototype-function library.Free = refl
+prototype-function library.Realloc = refl
+prototype-function library.Memcpy = refl
+prototype-function library.Memmove = refl
+prototype-function library.Memset = refl
+prototype-function library.Memcmp = refl
+prototype-function library.Strlen = refl
+prototype-function library.Strcmp = refl
+prototype-function library.Strcpy = refl
+prototype-function library.Exit = refl
+prototype-function library.Abort = refl
+prototype-function library.Printf = refl
+
+parameters-of : (p r : Ty) (ts : Tys) (c : Bool) → is_function p ≡ true → Matches (FunctionTy r ts c) p → AreParametersOf p ts c
+parameters-of (FunctionTy q qs d) r ts c f m = (all-like ts qs (matching_parameters r q ts qs c d m), flags-equal m.left m.right r q ts qs c d m.same)
+parameters-of VoidTy r ts c f m = absurd cc
+parameters-of (IntTy k) r ts c f m = absurd cc
+parameters-of (PointerTo t) r ts c f m = absurd cc
+parameters-of (ArrayOf t n) r ts c f m = absurd cc
+parameters-of (StructTag n) r ts c f m = absurd cc
+parameters-of (UnionTag n) r ts c f m = absurd cc
+parameters-of (ConstOf t) r ts c f m = absurd cc
+
+-- 6.2.7p3: a composite type has the parameters of the older one
+like-composites : (ts us ws : Tys) → AreAllLike ts ws → AreAllLike (composites ts us) ws
+like-composites (MoreTys t ts) (MoreTys u us) (MoreTys w ws) h = (like-then (composite_of t u) t w (composite-like t u) h.0, like-composites ts us ws h.1)
+like-composites (MoreTys t ts) (MoreTys u us) NoTys h = absurd h
+like-composites (MoreTys t ts) NoTys ws h = h
+like-composites NoTys us ws h = h
+
+parameters-composite : (p : Ty) (ts us : Tys) (c : Bool) → AreParametersOf p ts c → AreParametersOf p (composites ts us) c
+parameters-composite (FunctionTy q qs d) ts us c h = (like-composites ts us qs h.0, h.1)
+parameters-composite VoidTy ts us c h = absurd h
+parameters-composite (IntTy k) ts us c h = absurd h
+parameters-composite (PointerTo t) ts us c h = absurd h
+parameters-composite (ArrayOf t n) ts us c h = absurd h
+parameters-composite (StructTag n) ts us c h = absurd h
+parameters-composite (UnionTag n) ts us c h = absurd h
+parameters-composite (ConstOf t) ts us c h = absurd h
 
 -- 6.2.7p3: a composite type of a result
 composite-integer : (k : IntKind) (u : Ty) → composite_of (IntTy k) u ≡ IntTy k
@@ -270,8 +322,12 @@ composite-fixed (ConstOf t) _ h = tt
 -- 6.2.7p4: a function type stays one of its function
 pub composite-function : (v : WholeUnit) (l : Option Library) (t u : Ty) → are_compatible t u ≡ true → is_function t ≡ true → is_function u ≡ true → HasFunctionType v l t → IsProper v u → HasFunctionType v l (composite_of t u)
 composite-function v None t u c f g h p = (proper-composite v t u (matching t u c) h.0 p, composite-fixed t u h.1)
-composite-function v (Some l) (FunctionTy r ts b) (FunctionTy s us d) c f g h p =
-    (result-composite l r s h.0, composite-plain r s h.1, proper-composite v r s (matching_result r s ts us b d (matching (FunctionTy r ts b) (FunctionTy s us d) c)) h.2 p.1)
+composite-function v (Some l) (FunctionTy r ts b) (FunctionTy s us d) c f g h p = (
+  result-composite l r s h.0,
+  composite-plain r s h.1,
+  proper-composite v r s (matching_result r s ts us b d (matching (FunctionTy r ts b) (FunctionTy s us d) c)) h.2 p.1,
+  parameters-composite (prototype l) ts us b h.3,
+)
 composite-function v (Some l) (FunctionTy r ts b) VoidTy c f g h p = absurd cc
 composite-function v (Some l) (FunctionTy r ts b) (IntTy k) c f g h p = absurd cc
 composite-function v (Some l) (FunctionTy r ts b) (PointerTo u) c f g h p = absurd cc
@@ -313,7 +369,9 @@ may-type v texts n (FunctionTy r ts c) f h p = by (library_named (get_or texts n
 
     by : (o : Option Library) → library_named (get_or texts n []) ≡ o → agrees o (FunctionTy r ts c) ≡ true → HasFunctionType v o (FunctionTy r ts c)
     by None e a = (p, none-printf c h.variadic e)
-    by (Some l) e a = (result-of l r p.0 (result-matches r ts c (prototype l) (matching (FunctionTy r ts c) (prototype l) a)), p.0, p.1)
+    by (Some l) e a =
+        let m = matching (FunctionTy r ts c) (prototype l) a in
+        (result-of l r p.0 (result-matches r ts c (prototype l) m), p.0, p.1, parameters-of (prototype l) r ts c (prototype-function l) m)
 may-type v texts n VoidTy f h p = absurd cc
 may-type v texts n (IntTy k) f h p = absurd cc
 may-type v texts n (PointerTo t) f h p = absurd cc
@@ -359,14 +417,6 @@ composite-shape (UnionTag n) u h = absurd cc
 composite-shape (ConstOf t) u h = absurd cc
 
 -- ---- what a later declaration keeps of an earlier one, and of itself (6.2.7p4)
-
-all-like : (ts us : Tys) → MatchAll ts us → AreAllLike ts us
-all-like NoTys NoTys e = tt
-all-like NoTys (MoreTys u us) e = absurd cc
-all-like (MoreTys t ts) NoTys e = absurd cc
-all-like (MoreTys t ts) (MoreTys u us) e =
-    let h = both-true _ (all_alike (forms_of ts) (forms_of us)) e in
-    (like-alike _ _ t u h.0, all-like ts us h.1)
 
 likes-then : (ts us ws : Tys) → AreAllLike ts us → AreAllLike us ws → AreAllLike ts ws
 likes-then NoTys NoTys NoTys h g = tt

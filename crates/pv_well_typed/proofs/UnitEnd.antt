@@ -13,6 +13,7 @@ use Rattle.pv_types.specs.Layouts.{is_complete_in}
 use Rattle.pv_types.specs.Ty.{Ty, Tys, NoTys, MoreTys, VoidTy, IntTy, PointerTo, ArrayOf, StructTag, UnionTag, FunctionTy, ConstOf}
 use Rattle.pv_typed.specs.Known.{Each}
 use Rattle.pv_typed.specs.Mains.{main_text, literal_text, heap_text, named_main, first_main, main_of}
+use Rattle.pv_guards.proofs.Mains.{main-has-name}
 use Rattle.pv_typed.proofs.Each.{each_weaker}
 use Rattle.pv_typed.specs.TypedUnits.{WholeUnit, TypedObject, TypedFunction, layouts, object_at, function_at, name_at}
 use Rattle.pv_typed.specs.UnitParts.{no_object, no_function, no_literal}
@@ -395,20 +396,6 @@ result-is (ConstOf t) h = absurd h
 function-result : (v : WholeUnit) (l : Option _) (t r : Ty) (ts : Tys) → HasFunctionType v l t → t ≡ FunctionTy r ts false → IsValueOrVoid r
 function-result v None t r ts h e = (subst (IsProper v) e h.0).0
 function-result v (Some l) t r ts h e = (subst (IsLibraryType v l) e h).1
-
--- 5.1.2.2.1p1: the function that is called at program startup has the name
-main-has-name : (names : List (List ℕ)) (fs : List TypedFunction) (f : ℕ) → first_main names fs ≡ Some f → named_main names (get_or fs f no_function).name ≡ true
-main-has-name names [] f e = absurd cc
-main-has-name names (x ∷ fs) f e = by (main-has-name names fs) (named_main names x.name) refl e
-  where
-    later : ((g : ℕ) → first_main names fs ≡ Some g → named_main names (get_or fs g no_function).name ≡ true) → (o : Option ℕ) → first_main names fs ≡ o → option_map suc o ≡ Some f → named_main names (get_or (x ∷ fs) f no_function).name ≡ true
-    later rest None q e = absurd cc
-    later rest (Some g) q e = subst (λ j. named_main names (get_or (x ∷ fs) j no_function).name ≡ true) (some-same (suc g) f e) (rest g q)
-
-    by : ((g : ℕ) → first_main names fs ≡ Some g → named_main names (get_or fs g no_function).name ≡ true) → (b : Bool) → named_main names x.name ≡ b → (if b then Some 0 else option_map suc (first_main names fs)) ≡ Some f
-        → named_main names (get_or (x ∷ fs) f no_function).name ≡ true
-    by rest true q e = subst (λ j. named_main names (get_or (x ∷ fs) j no_function).name ≡ true) (some-same 0 f e) q
-    by rest false q e = later rest (first_main names fs) refl e
 
 main-there : (names : List (List ℕ)) (fs : List TypedFunction) (f : ℕ) → first_main names fs ≡ Some f → f < length fs
 main-there names [] f e = absurd cc

@@ -1,6 +1,7 @@
 -- What typing keeps true of its state (C17 6.2.1, 6.2.5, 6.7): told of the types that the unit has at its end.
 use Rattle.std.specs.Prelude.{◌≡◌, ◌<◌, ℕ, true, false, Option, Some, None, List, length}
 use Rattle.pv_library.specs.declared.library.Library.{Library}
+use Rattle.pv_library.specs.LibraryTypes.{prototype}
 use Rattle.pv_num.specs.declared.kinds.IntKind.TheVariants.{Int}
 use Rattle.pv_num.specs.Kinds.{Fits}
 use Rattle.pv_types.specs.Ty.{Ty, FunctionTy}
@@ -10,14 +11,14 @@ use Rattle.pv_typed.specs.Known.{Each}
 use Rattle.pv_typed.specs.TypedUnits.{WholeUnit, TypedObject, layouts, object_at, function_at}
 use Rattle.pv_tree.specs.Syntax.{ExpressionTree}
 use Rattle.pv_check.specs.State.{State, Scope, Meaning, ObjectName, FunctionName, TypedefOf, ConstantOf, TagMeaning, CompositeTag, EnumerationTag, OpenEnumeration}
-use Rattle.pv_guards.specs.Typed.{IsIn, IsResultOf}
+use Rattle.pv_guards.specs.Typed.{IsIn, IsResultOf, AreParametersOf}
 use Rattle.pv_well_typed.specs.Proper.{IsProper, IsValueOrVoid}
 use Rattle.pv_well_typed.specs.Later.{library_of}
 use Rattle.pv_well_typed.specs.Characters.{HasCharacters}
 
--- 7.1.4p2: the type of a function of the library
+-- 7.1.4p2: the type of a function of the library, compatible with its prototype: so its parameters have the values of those there
 abbrev pub IsLibraryType : WholeUnit → Library → Ty → Type 0
-IsLibraryType v l (FunctionTy t ts variadic) = IsResultOf l t × IsValueOrVoid t × IsProper v t
+IsLibraryType v l (FunctionTy t ts variadic) = IsResultOf l t × IsValueOrVoid t × IsProper v t × AreParametersOf (prototype l) ts variadic
 IsLibraryType v l _ = ⊥
 
 -- our choice: a type without `...`
