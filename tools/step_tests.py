@@ -136,8 +136,8 @@ def places_told(tests: Tests) -> "Iterator[tuple[str, object, object]]":
         "object p#1 type=int * address=0x10000 size=8 value={a#1 + 0, ended}"
     ), tests.told(ENDED, "go 15\nwhere\n", PLACES, False)
     yield "calls, and all objects", (
-        "0\nturn 20 running\nturn 21\ncall twice line=9\nobject n#1 type=int address=0x10040 size=4 value=0\nobject m#1 type=int address=0x10060 size=4 value=unset\n"
-        "call main line=6\nobject i#1 type=int address=0x10000 size=4 value=0\nobject s#1 type=int address=0x10020 size=4 value=0"
+        "0\nturn 20 running\nturn 21\ncall twice line=9\nobject n#1 type=int address=0x10060 size=4 value=0\nobject m#1 type=int address=0x10080 size=4 value=unset\n"
+        "call main line=6\nobject i#1 type=int address=0x10020 size=4 value=0\nobject s#1 type=int address=0x10040 size=4 value=0"
     ), tests.told(CALLS, "go 20\nwhere all\n", "", False)
     told = tests.told("int main(void) { while (1) ; return 0; }", "go 1000000\nwhere\n", "", False)
     yield "behind the last turn", "0\nturn 1000000 running\nturn 1000001\ncall main line=1", told
